@@ -1,0 +1,4 @@
+pub mod Places
+pub mod Raws
+pub mod Scaling
+pub mod Found

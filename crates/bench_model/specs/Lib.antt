@@ -1,0 +1,4 @@
+pub mod Raw
+pub mod Value
+pub mod Meaning
+pub mod Limits

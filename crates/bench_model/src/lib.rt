@@ -1,0 +1,23 @@
+//! The model of a bench: databases of messages and signals, the plain decoding of a frame under them, and
+//! the records and items that decoding gives.
+//!
+//! The readers of database files make its values, and every faster decoder is held against it: it stands
+//! on std alone, and the server's crates stand on it.
+//!
+//! Main theorem: `Bench::plain` gives exactly the meaning of a frame's bytes, the first matching message's
+//! signals in file order, each with its raw value bit by bit, its exact value, its unit and its label.
+#![tactic(auto)]
+
+mod database;
+mod list;
+mod plain;
+mod raw;
+mod reading;
+mod scale;
+mod text;
+
+pub use database::{Bench, Bus, Coding, Database, Entry, Key, Kind, Label, Message, Order, Signal};
+pub use list::List;
+pub use reading::{Ask, Body, CutCause, Item, Plain, Reading, SignalValue};
+pub use scale::{Exact, Scale};
+pub use text::Text;
