@@ -1,0 +1,5 @@
+pub mod RunLaws
+pub mod PieceLaws
+pub mod LineLaws
+pub mod NumberLaws
+pub mod SignedLaws
