@@ -5,3 +5,6 @@ pub mod Sink
 pub mod Library
 pub mod Transfers
 pub mod Overrun
+pub mod MemoryReader
+pub mod Progress
+pub mod MemSource

@@ -2,12 +2,15 @@
 #![tactic(auto)]
 
 mod library;
+mod memory_calls;
+mod memory_reader;
 mod piece;
 mod sink;
 mod source;
 mod whole;
 
 pub use library::Library;
+pub use memory_reader::MemSource;
 pub use piece::write_piece;
 pub use sink::Sink;
 pub use source::{Failed, Source};
