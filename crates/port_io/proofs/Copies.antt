@@ -1,0 +1,19 @@
+-- Bytes copied from the place that reads have come to.
+use Rattle.std.proofs.Common.{◌≡◌, ℕ, ◌+◌, List, ◌++◌, length, take, drop, Some, sym, ap, ◌∙◌}
+use Rattle.std.proofs.lemmas.List.{take_rest, take-append-drop, drop-drop}
+use Rattle.std.proofs.Math.Seq.{take-add}
+use Rattle.std.specs.List.{between}
+use Rattle.port_io.specs.MemoryReader.{MemoryReader, bytes_left, bytes_taken}
+
+-- the bytes copied, then those that stand past them
+pub left_parted : (bytes to : List ℕ) (p n : ℕ) → take n to ≡ take n (between p (length bytes) bytes) → Some (drop p bytes) ≡ Some (take n to ++ drop (p + n) bytes)
+left_parted bytes to p n copied = ap (λ (l : List ℕ). Some l) (sym parts)
+  where
+    parts : take n to ++ drop (p + n) bytes ≡ drop p bytes
+    parts = ap (λ (l : List ℕ). l ++ drop (p + n) bytes) (copied ∙ ap (λ (l : List ℕ). take n l) (take_rest bytes p))
+        ∙ ap (λ (l : List ℕ). take n (drop p bytes) ++ l) (sym (drop-drop n p bytes)) ∙ take-append-drop n (drop p bytes)
+
+-- the bytes given before, then those copied
+pub taken_parted : (bytes to : List ℕ) (p n : ℕ) → take n to ≡ take n (between p (length bytes) bytes) → Some (take (p + n) bytes) ≡ Some (take p bytes ++ take n to)
+taken_parted bytes to p n copied = ap (λ (l : List ℕ). Some l)
+    (take-add p n bytes ∙ ap (λ (l : List ℕ). take p bytes ++ l) (sym (copied ∙ ap (λ (l : List ℕ). take n l) (take_rest bytes p))))

@@ -1,0 +1,4 @@
+pub mod Known
+pub mod Pieces
+pub mod Refusals
+pub mod Copies

@@ -1,0 +1,8 @@
+use Rattle.port_io.proofs.Copies.{left_parted, taken_parted}
+use Rattle.port_io.proofs.memory_reader.Progress.read.Goals as goal
+
+pub returns-clause-left : goal.returns-clause-left
+returns-clause-left c = left_parted c.args.bytes.now c.copy_some-count.new.to c.args.self.now.place c.copy_some-count.result c.copy_some-count.ensures.copied
+
+pub returns-clause-taken : goal.returns-clause-taken
+returns-clause-taken c = taken_parted c.args.bytes.now c.copy_some-count.new.to c.args.self.now.place c.copy_some-count.result c.copy_some-count.ensures.copied

@@ -1,0 +1,10 @@
+pub mod Causes
+pub mod OtherSide
+pub mod Source
+pub mod Sink
+pub mod Library
+pub mod Transfers
+pub mod Overrun
+pub mod MemoryReader
+pub mod Progress
+pub mod MemSource

@@ -1,0 +1,31 @@
+//! What the objects in memory share: counts that stand still at their end, and calls that fail by their numbers.
+ghost use Rattle.std.specs.Prelude.{◌≡◌, ◌≤◌, ◌-◌, ◌↔◌, min, take, drop, length, Contains, IsTrue};
+ghost use Rattle.port_io.specs.Causes.{raised};
+
+/// Raises a count by one.
+pub(crate) fn raise(count: &mut u64)
+    ensures { count.new ≡ raised count.old }
+{
+    *count = count.saturating_add(1);
+}
+
+/// Whether the call of this number is to fail, and counts it.
+pub(crate) fn is_failing(calls: &mut u64, fails: &[u64]) -> bool
+    ensures fails { IsTrue result ↔ Contains fails.now calls.old }
+    ensures counted { calls.new ≡ raised calls.old }
+{
+    let failing = fails.contains(calls);
+    raise(calls);
+    failing
+}
+
+/// Copies the first bytes of `from` to the front of `to`, `most` of them at most, and answers how many.
+pub(crate) fn copy_some(from: &[u8], most: usize, to: &mut [u8]) -> usize
+    ensures count { result ≡ min (min most (length to.old)) (length from.now) }
+    ensures copied { take result to.new ≡ take result from.now }
+    ensures rest { drop result to.new ≡ drop result to.old }
+{
+    let count = most.min(to.len()).min(from.len());
+    to[..count].copy_from_slice(&from[..count]);
+    count
+}

@@ -1,0 +1,119 @@
+//! Sources in memory: one that owns its bytes, and a log that borrows a file's.
+ghost use Rattle.std.specs.Prelude.{◌≡◌, ◌<◌, ◌≤◌, length, false, refl};
+ghost use Rattle.std.specs.Io.{ReadsAtMost};
+ghost use Rattle.port_io.specs.Causes.{HasCause};
+ghost use Rattle.port_io.specs.OtherSide.{no_other_side};
+ghost use Rattle.port_io.specs.Source.{ReadsFrom, SaysEnd, Takes, ended_after};
+ghost use Rattle.port_io.specs.MemoryReader.{unread, bytes_left, bytes_taken, ReadsMemory};
+
+use crate::memory_calls::{copy_some, is_failing, raise};
+use crate::{Failed, Source};
+
+/// How far reads over some bytes have come.
+#[derive(Drop)]
+struct Progress {
+    place: usize,
+    calls: u64,
+    faults: u64,
+    ended: bool,
+}
+
+impl Progress {
+    ghost use Rattle.port_io.specs.Progress.{reader};
+
+    /// No read was made yet.
+    fn new() -> Progress
+        ensures { result ≡ record { place = 0; calls = 0; faults = 0; ended = false } }
+    {
+        Progress {
+            place: 0,
+            calls: 0,
+            faults: 0,
+            ended: false,
+        }
+    }
+
+    /// One read over these bytes.
+    fn read(&mut self, bytes: &[u8], step: usize, fails: &[u64], buf: &mut [u8]) -> Result<usize, Failed>
+        requires within { self.old.place ≤ length bytes.now }
+        requires steps { 1 ≤ step }
+        requires room { 0 < length buf.old }
+
+        ensures within { self.new.place ≤ length bytes.now }
+        ensures bound { ReadsAtMost result buf.new }
+        ensures left { ReadsFrom (bytes_left (reader bytes.now step fails.now self.old))
+            (bytes_left (reader bytes.now step fails.now self.new)) result buf.new }
+        ensures end { SaysEnd (bytes_left (reader bytes.now step fails.now self.old)) result }
+        ensures taken { Takes (bytes_taken (reader bytes.now step fails.now self.old))
+            (bytes_taken (reader bytes.now step fails.now self.new)) result buf.new }
+        ensures exact { ReadsMemory (reader bytes.now step fails.now self.old)
+            (reader bytes.now step fails.now self.new) result buf.new }
+    {
+        if is_failing(&mut self.calls, fails) {
+            raise(&mut self.faults);
+            return Err(Failed);
+        }
+        let count = copy_some(&bytes[self.place..], step, buf);
+        self.place += count;
+        self.ended = self.ended || count == 0;
+        Ok(count)
+    }
+}
+
+/// A source over bytes in memory.
+#[derive(Drop)]
+pub struct MemSource {
+    bytes: Vec<u8>,
+    step: usize,
+    fails: Vec<u64>,
+    progress: Progress,
+    ghost within: { progress.place ≤ length bytes.items },
+    ghost steps: { 1 ≤ step },
+}
+
+impl MemSource {
+    ghost use Rattle.port_io.specs.MemSource.{source_reader};
+
+    /// A source that gives these bytes, at most `step` a read, and fails at the reads whose numbers, from 0, are in `fails`.
+    pub fn new(bytes: Vec<u8>, step: usize, fails: Vec<u64>) -> MemSource
+        requires { 1 ≤ step }
+        ensures { source_reader result ≡ unread bytes.items step fails.items }
+    {
+        MemSource {
+            bytes,
+            step,
+            fails,
+            progress: Progress::new(),
+        }
+    }
+}
+
+impl Source for MemSource {
+    ghost use Rattle.port_io.specs.MemSource.{source_reader};
+
+    ghost left = { λ s. bytes_left (source_reader s) };
+
+    ghost taken = { λ s. bytes_taken (source_reader s) };
+
+    ghost read_faults = { λ s. (source_reader s).faults };
+
+    ghost ended = { λ s. (source_reader s).ended };
+
+    ghost other = { λ _. no_other_side };
+
+    ghost told_alike = { λ _. refl };
+
+    fn read(&mut self, buf: &mut [u8]) -> Result<usize, Failed>
+        requires { 0 < length buf.old }
+
+        ensures bound { ReadsAtMost result buf.new }
+        ensures left { ReadsFrom (bytes_left (source_reader self.old)) (bytes_left (source_reader self.new)) result buf.new }
+        ensures end { SaysEnd (bytes_left (source_reader self.old)) result }
+        ensures taken { Takes (bytes_taken (source_reader self.old)) (bytes_taken (source_reader self.new)) result buf.new }
+        ensures ended { (source_reader self.new).ended ≡ ended_after (source_reader self.old).ended result }
+        ensures cause { HasCause (source_reader self.old).faults (source_reader self.new).faults result }
+        ensures exact { ReadsMemory (source_reader self.old) (source_reader self.new) result buf.new }
+    {
+        self.progress.read(&self.bytes, self.step, &self.fails, buf)
+    }
+}
