@@ -33,12 +33,15 @@ numeral_digits text numeral =
     let parts = and_parts (ltb 0 (length text)) (list_all is_ascii_digit text) numeral in
     (ltb-true 0 (length text) parts.0, parts.1)
 
--- 18 digits spell less than 10 ^ 18
-number_of-lt : (text : List ℕ) → is_numeral radixes.Decimal text ≡ true → length text ≤ 18 → number_of radixes.Decimal text ≤ 999999999999999999
-number_of-lt text numeral short =
+-- k digits spell less than 10 ^ k
+pub number_of-below : (text : List ℕ) (k : ℕ) → is_numeral radixes.Decimal text ≡ true → length text ≤ k → number_of radixes.Decimal text < 10 ^ k
+number_of-below text k numeral short =
     let below : digits_value 10 text < 10 ^ length text = digits_value-lt 10 text (AllDigits_from text (numeral_digits text numeral).1) in
-    let power : 10 ^ length text ≤ 10 ^ 18 = pow-le-pow_right (omega arith) short in
+    let power : 10 ^ length text ≤ 10 ^ k = pow-le-pow_right (omega arith) short in
     omega (arith, below, power)
+
+number_of-lt : (text : List ℕ) → is_numeral radixes.Decimal text ≡ true → length text ≤ 18 → number_of radixes.Decimal text ≤ 999999999999999999
+number_of-lt text numeral short = omega (arith, number_of-below text 18 numeral short)
 
 short_decimal_takes : (text : List ℕ) (n : ℕ) → short_decimal text ≡ Some n → (is_numeral radixes.Decimal text ≡ true) × (length text ≤ 18) × (n ≡ number_of radixes.Decimal text)
 short_decimal_takes text n e =

@@ -1,0 +1,12 @@
+pub mod Words
+pub mod BenchFile
+pub mod BenchView
+pub mod LogFile
+pub mod LogView
+pub mod StatusCode
+pub mod LogResult
+pub mod ItemText
+pub mod Decoded
+pub mod TextView
+pub mod WordView
+pub mod FaultLine
