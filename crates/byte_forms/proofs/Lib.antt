@@ -3,3 +3,4 @@ pub mod PieceLaws
 pub mod LineLaws
 pub mod NumberLaws
 pub mod SignedLaws
+pub mod WordLaws

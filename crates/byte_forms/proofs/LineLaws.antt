@@ -64,3 +64,8 @@ IsCut-behind bytes line (x ∷ end) whole is some =
     let rest : take (suc (length end) - 1) end ≡ end = grind (arith, common_steps) in
     let feed : x ≡ 10 = eqb-true x 10 (not-false (eqb x 10) (drop_while-head (is_in classes.LineByte) bytes x end (sym is))) in
     rw rest (inl (rw feed at whole))
+
+-- an empty text has no lines
+pub all_lines-nil : all_lines [] ≡ []
+unfolding all_lines
+all_lines-nil = refl

@@ -12,7 +12,7 @@ use Rattle.byte_forms.proofs.RunLaws.{list_all-fails, list_all_from}
 use Rattle.std.specs.List.{list_all}
 use Rattle.std.proofs.lemmas.Bool.{cases_Bool, leb-true, leb-false, lt-leb, le-leb, lt-ltb, and_parts}
 use Rattle.std.proofs.lemmas.Option.{cond_some}
-use Rattle.std.specs.Prelude.{IfSome, ◌&&◌}
+use Rattle.std.specs.Prelude.{◌&&◌}
 
 -- a digit of either radix is a hexadecimal digit
 pub is_ascii_hexdigit_from_class : (radix : Radix) (b : ℕ) → is_in (digit_class radix) b ≡ true → is_ascii_hexdigit b ≡ true
@@ -100,16 +100,6 @@ number_up_to-whole radix limit text i value some end so_far below digits =
     let first : ltb 0 (length text) ≡ true = lt-ltb 0 (length text) some in
     let fits : leb (number_of radix text) limit ≡ true = le-leb (number_of radix text) limit (omega (arith, is)) in
     rw (all, first, fits) (ap (λ (n : ℕ). Some n) is)
-
--- a number that is read is within the limit
-pub number_up_to-within : (radix : Radix) (limit : ℕ) (text : List ℕ) (r : Option ℕ) → r ≡ number_up_to radix limit text → IfSome r (λ n. n ≤ limit)
-unfolding number_up_to
-number_up_to-within radix limit text None e = tt
-number_up_to-within radix limit text (Some n) e =
-    let chosen = cond_some (is_numeral radix text && leb (number_of radix text) limit) (number_of radix text) n (sym e) in
-    let parts = and_parts (is_numeral radix text) (leb (number_of radix text) limit) chosen.0 in
-    let below : number_of radix text ≤ limit = leb-true (number_of radix text) limit parts.1 in
-    omega (arith, chosen.1)
 
 -- what a number was read from
 pub number_up_to_takes : (radix : Radix) (limit : ℕ) (text : List ℕ) (n : ℕ) → number_up_to radix limit text ≡ Some n → (is_numeral radix text ≡ true) × (n ≡ number_of radix text) × (n ≤ limit)

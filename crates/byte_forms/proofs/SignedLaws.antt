@@ -1,5 +1,5 @@
 -- Signed numbers by their digits: what is read is a numeral, and each numeral is read.
-use Rattle.std.proofs.Common.{◌≡◌, ℕ, ◌^◌, ◌<◌, ◌≤◌, true, leb, ltb, eqb, List, [], ◌∷◌, length, Option, Some, None, refl, sym, ap, ◌∙◌, arith, inl, inr}
+use Rattle.std.proofs.Common.{◌⊎◌, ◌≡◌, ℕ, ◌^◌, ◌<◌, ◌≤◌, true, leb, ltb, eqb, List, [], ◌∷◌, length, Option, Some, None, refl, sym, ap, ◌∙◌, arith, inl, inr}
 use Rattle.std.specs.Prelude.{ℤ, pos, neg_ℤ}
 use Rattle.std.specs.Char.{digit_value, is_ascii_digit}
 use Rattle.std.specs.List.{list_all}
@@ -121,3 +121,9 @@ IsSignedNumeral-class text n s =
       | inl plain ↦ rw plain.0 digits
       | inr minus ↦ rw minus.0 digits
     ]
+
+-- a numeral spells a number below 10 ^ 18 in size
+pub IsSignedNumeral-size : (text : List ℕ) (n : ℤ) → IsSignedNumeral text n → (size : ℕ) × (size ≤ 999999999999999999) × ((n ≡ pos size) ⊎ (n ≡ neg_ℤ (pos size)))
+IsSignedNumeral-size text n s =
+    let below : number_of radixes.Decimal s.digits ≤ 999999999999999999 = number_of-lt s.digits s.are_digits s.are_short in
+    (number_of radixes.Decimal s.digits, below, elim s.sign [ inl plain ↦ inl plain.1 | inr minus ↦ inr minus.1 ])

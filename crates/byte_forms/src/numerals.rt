@@ -59,7 +59,8 @@ fn with_digit(base: u64, value: u64, digit: u8, limit: u64) -> Option<u64>
 /// The number that the text spells in digits, where it is at most the limit. Zeros at the front count
 /// nothing, however many there are.
 pub fn number_up_to(radix: Radix, limit: u64, text: &[u8]) -> Option<u64>
-    ensures { result ≡ number_up_to radix limit text.now }
+    ensures value { result ≡ number_up_to radix limit text.now }
+    ensures within { IfSome result (λ n. n ≤ limit) }
 {
     if text.is_empty() {
         return None;

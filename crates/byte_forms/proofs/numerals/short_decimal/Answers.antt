@@ -1,9 +1,7 @@
 use Rattle.std.proofs.Common.{◌≤◌, ℕ, arith}
 use Rattle.std.proofs.lemmas.Option.{IfSome_then}
-use Rattle.byte_forms.specs.declared.numerals.Radix.TheVariants.{Decimal}
-use Rattle.byte_forms.proofs.NumberLaws.{number_up_to-within}
 use Rattle.byte_forms.proofs.numerals.short_decimal.Goals as goal
 
 pub returns-clause-below : goal.returns-clause-below
 returns-clause-below c =
-    IfSome_then c.number_up_to.result (number_up_to-within Decimal 999999999999999999 c.args.text.now c.number_up_to.result c.number_up_to.ensures) (λ (n : ℕ) (below : n ≤ 999999999999999999). omega arith)
+    IfSome_then c.number_up_to.result c.number_up_to.ensures.within (λ (n : ℕ) (below : n ≤ 999999999999999999). omega arith)

@@ -1,0 +1,9 @@
+pub mod LastMessage
+pub mod FieldLaws
+pub mod Gathered
+pub mod Outcomes
+pub mod LineSpelling
+pub mod StatementSpelling
+pub mod TextLaws
+pub mod FitLaws
+pub mod ReadLaws

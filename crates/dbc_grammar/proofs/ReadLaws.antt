@@ -1,0 +1,103 @@
+-- What follows of a file from what reading its lines gives.
+use Rattle.std.proofs.Common.{◌≡◌, ℕ, ◌<◌, ◌≤◌, List, [], length, All, Result, Ok, Err, refl, sym, ap, subst, ◌∙◌, arith, inl, inr}
+use Rattle.byte_forms.specs.Lines.{all_lines}
+use Rattle.bench_model.specs.declared.database.Message.{Message}
+use Rattle.bench_model.specs.declared.database.Database.{Database}
+use Rattle.bench_model.specs.Limits.{IsLawfulMessage}
+use Rattle.dbc_grammar.specs.declared.fault.DbcFault.{DbcFault}
+use Rattle.dbc_grammar.specs.declared.fault.DbcFault.TheVariants as faults
+use Rattle.dbc_grammar.specs.Statement.{gather}
+use Rattle.dbc_grammar.specs.Lawful.{IsFirstFault}
+use Rattle.dbc_grammar.specs.Reading.{outcome}
+use Rattle.dbc_grammar.specs.Gives.{Names}
+use Rattle.dbc_grammar.specs.Whole.{HasWholeSignals}
+use Rattle.dbc_grammar.specs.Contract.{byte_limit, SpellsDatabase, IsRefusedAt, HasFault, IsLineOrMemory}
+use Rattle.dbc_grammar.proofs.TextLaws.{text-read, text-lawful, text-stopped, text-faulty}
+use Rattle.dbc_grammar.proofs.FitLaws.{gather-fits, gather-whole}
+
+-- the database of these messages
+abbrev pub database : List Message → Database
+database messages = record { messages = messages }
+
+pub SpellsDatabase-read : (bytes : List ℕ) (messages : List Message) → length bytes ≤ byte_limit → outcome [] 0 (all_lines bytes) ≡ Ok messages → SpellsDatabase bytes (database messages)
+SpellsDatabase-read bytes messages short e =
+    let read = text-read (all_lines bytes) messages e in
+    (short, read.0, read.1, ap database read.2)
+
+-- a spelled database is what reading gives
+pub SpellsDatabase-outcome : (bytes : List ℕ) (d : Database) → SpellsDatabase bytes d → outcome [] 0 (all_lines bytes) ≡ Ok d.messages
+SpellsDatabase-outcome bytes d spells =
+    text-lawful (all_lines bytes) spells.1 spells.2 ∙ ap (λ (d : Database). Ok d.messages) (sym spells.3)
+
+pub SpellsDatabase-is : (bytes : List ℕ) (messages : List Message) → outcome [] 0 (all_lines bytes) ≡ Ok messages → (d : Database) → SpellsDatabase bytes d → database messages ≡ d
+SpellsDatabase-is bytes messages e d spells =
+    let same : messages ≡ d.messages = cc (SpellsDatabase-outcome bytes d spells) in
+    ap database same
+
+-- bytes spell one database at most
+pub one_database : (bytes : List ℕ) (d e : Database) → SpellsDatabase bytes d → SpellsDatabase bytes e → d ≡ e
+one_database bytes d e first second = SpellsDatabase-is bytes d.messages (SpellsDatabase-outcome bytes d first) e second
+
+-- what refuses a file of few enough bytes is its first faulty line
+refused_line : (bytes : List ℕ) (line : ℕ) → length bytes ≤ byte_limit → IsRefusedAt bytes line → IsFirstFault (all_lines bytes) line
+refused_line bytes line short refused =
+    elim refused [
+      | inl long ↦ absurd (omega (arith, long.0))
+      | inr faulty ↦ faulty.1
+    ]
+
+pub read_not_refused : (bytes : List ℕ) (messages : List Message) → length bytes ≤ byte_limit → outcome [] 0 (all_lines bytes) ≡ Ok messages → (line : ℕ) → IsRefusedAt bytes line → ⊥
+read_not_refused bytes messages short e line refused =
+    absurd (cc (text-faulty (all_lines bytes) line (refused_line bytes line short refused)))
+
+pub read-fits : (bytes : List ℕ) (messages : List Message) → outcome [] 0 (all_lines bytes) ≡ Ok messages → All IsLawfulMessage messages
+read-fits bytes messages e =
+    let read = text-read (all_lines bytes) messages e in
+    subst (λ (ms : List Message). All IsLawfulMessage ms) (sym read.2) (gather-fits (all_lines bytes) read.0 read.1)
+
+pub read-whole : (bytes : List ℕ) (messages : List Message) → outcome [] 0 (all_lines bytes) ≡ Ok messages → All HasWholeSignals messages
+read-whole bytes messages e =
+    let read = text-read (all_lines bytes) messages e in
+    subst (λ (ms : List Message). All HasWholeSignals ms) (sym read.2) (gather-whole read.0)
+
+-- ---- after a fault
+
+pub fault_not_spelled : (fault : DbcFault) (bytes : List ℕ) → Names fault (outcome [] 0 (all_lines bytes)) → (d : Database) → SpellsDatabase bytes d → fault ≡ faults.Memory
+fault_not_spelled (faults.NotBuilt line) bytes names d spells = absurd (cc (SpellsDatabase-outcome bytes d spells))
+fault_not_spelled faults.Memory bytes names d spells = refl
+
+pub HasFault-from : (fault : DbcFault) (bytes : List ℕ) → length bytes ≤ byte_limit → Names fault (outcome [] 0 (all_lines bytes)) → HasFault bytes fault
+HasFault-from (faults.NotBuilt line) bytes short names = inr (short, text-stopped (all_lines bytes) line names)
+HasFault-from faults.Memory bytes short names = tt
+
+pub fault-line : (fault : DbcFault) (bytes : List ℕ) → length bytes ≤ byte_limit → Names fault (outcome [] 0 (all_lines bytes)) → (line : ℕ) → IsRefusedAt bytes line → IsLineOrMemory fault line
+fault-line (faults.NotBuilt named) bytes short names line refused =
+    let stops = text-faulty (all_lines bytes) line (refused_line bytes line short refused) in
+    let same : named ≡ line = cc in
+    same
+fault-line faults.Memory bytes short names line refused = tt
+
+-- ---- one answer
+
+both_faulty : (bytes : List ℕ) (m n : ℕ) → IsFirstFault (all_lines bytes) m → IsFirstFault (all_lines bytes) n → m ≡ n
+both_faulty bytes m n first second =
+    let stops = text-faulty (all_lines bytes) m first in
+    let also = text-faulty (all_lines bytes) n second in
+    let same : m ≡ n = cc in
+    same
+
+pub one_line : (bytes : List ℕ) (m n : ℕ) → IsRefusedAt bytes m → IsRefusedAt bytes n → m ≡ n
+one_line bytes m n first second =
+    elim first [
+      | inl long ↦ elim second [
+          | inl also ↦ long.1 ∙ sym also.1
+          | inr short ↦ absurd (omega (arith, long.0, short.0))
+        ]
+      | inr short ↦ elim second [
+          | inl long ↦ absurd (omega (arith, long.0, short.0))
+          | inr also ↦ both_faulty bytes m n short.1 also.1
+        ]
+    ]
+
+pub not_both : (bytes : List ℕ) (d : Database) (n : ℕ) → SpellsDatabase bytes d → IsRefusedAt bytes n → ⊥
+not_both bytes d n spells refused = read_not_refused bytes d.messages spells.0 (SpellsDatabase-outcome bytes d spells) n refused

@@ -1,0 +1,11 @@
+use Rattle.dbc_grammar.proofs.ReadLaws.{one_database, one_line, not_both}
+use Rattle.dbc_grammar.proofs.laws.one_answer.Goals as goal
+
+pub returns-clause-database : goal.returns-clause-database
+returns-clause-database c = one_database
+
+pub returns-clause-line : goal.returns-clause-line
+returns-clause-line c = one_line
+
+pub returns-clause-apart : goal.returns-clause-apart
+returns-clause-apart c = not_both

@@ -1,0 +1,21 @@
+use Rattle.std.proofs.Common.{◌≡◌, ◌++◌, ◌∷◌, [], ◌∙◌, sym, ap, refl, Option, List}
+use Rattle.bench_model.specs.declared.database.Signal.{Signal}
+use Rattle.bench_model.specs.declared.database.Message.{Message}
+use Rattle.dbc_grammar.specs.declared.reader.OpenMessage.{OpenMessage}
+use Rattle.dbc_grammar.specs.Statement.{signal_of}
+use Rattle.dbc_grammar.specs.Views.{field}
+use Rattle.dbc_grammar.specs.Reading.{onto_last}
+use Rattle.dbc_grammar.specs.Reader.{closed_message, open_messages}
+use Rattle.dbc_grammar.proofs.LastMessage.{onto_last-last, onto_last-nil}
+use Rattle.dbc_grammar.proofs.reader.Reader.with_field.Goals as goal
+
+pub returns-in_ok-push-in-Some : goal.returns-in_ok-push-in-Some
+returns-in_ok-push-in-Some c =
+    let s : Signal = signal_of (field c.args.field) in
+    let last = onto_last-last s c.args.self.closed.items (closed_message c.in-Some.open) in
+    let pushed : c.push.new.self.items ≡ c.in-Some.open.signals.items ++ s ∷ [] = rw c.in_ok-signal.ensures at c.in_ok-push-in-Some.ensures.items in
+    rw (c.in-Some.is, last, pushed) refl
+
+pub returns-in-None : goal.returns-in-None
+returns-in-None c =
+    rw (c.in-None.is, c.args.self.last_is_open c.in-None.is) (sym (onto_last-nil (signal_of (field c.args.field))))

@@ -1,0 +1,10 @@
+pub mod Statement
+pub mod Names
+pub mod Spelling
+pub mod Lawful
+pub mod Reading
+pub mod Views
+pub mod Reader
+pub mod Gives
+pub mod Whole
+pub mod Contract

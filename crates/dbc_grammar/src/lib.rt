@@ -1,0 +1,19 @@
+//! The reader of DBC files, the databases of CAN buses, in their plainest form: version, message and signal
+//! lines with one space between words. It stands on `byte_forms` for lines, literals and numerals and on
+//! `bench_model` for the database; the bench's server calls it.
+//! Main theorem: `read_dbc` gives the database that the lines spell exactly where each line is lawful after
+//! those before it, and else names the first line that isn't (`specs/Spelling.antt`, `specs/Lawful.antt`).
+#![tactic(auto)]
+
+mod fault;
+mod fields;
+mod laws;
+mod names;
+mod read;
+mod model;
+mod reader;
+mod statement;
+
+pub use fault::DbcFault;
+pub use laws::{one_answer, one_statement};
+pub use read::read_dbc;
