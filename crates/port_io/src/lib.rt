@@ -3,14 +3,21 @@
 
 mod library;
 mod memory_calls;
-mod memory_reader;
+mod memory_library;
+mod memory_log;
+mod memory_sink;
+mod memory_source;
 mod piece;
+mod progress;
 mod sink;
 mod source;
 mod whole;
 
 pub use library::Library;
-pub use memory_reader::MemSource;
+pub use memory_library::{MemFile, MemLibrary};
+pub use memory_log::MemLog;
+pub use memory_sink::MemSink;
+pub use memory_source::MemSource;
 pub use piece::write_piece;
 pub use sink::Sink;
 pub use source::{Failed, Source};

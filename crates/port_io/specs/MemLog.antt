@@ -1,0 +1,7 @@
+-- What a `MemLog` shows.
+use Rattle.port_io.specs.MemoryReader.{MemoryReader}
+use Rattle.port_io.specs.Progress.{reader}
+use Rattle.port_io.specs.declared.memory_log.MemLog.{MemLog}
+
+abbrev pub log_reader : MemLog → MemoryReader
+log_reader log = reader log.content.now log.step log.fails.now log.progress

@@ -1,0 +1,7 @@
+-- What a `MemSink` shows: the front of its room up to its place is written.
+use Rattle.std.specs.Prelude.{◌-◌, length, take}
+use Rattle.port_io.specs.MemoryWriter.{MemoryWriter}
+use Rattle.port_io.specs.declared.memory_sink.MemSink.{MemSink}
+
+abbrev pub sink_writer : MemSink → MemoryWriter
+sink_writer s = record { written = take s.place s.room.items; free = length s.room.items - s.place; step = s.step; fails = s.fails.items; calls = s.calls; faults = s.faults }
