@@ -1,13 +1,8 @@
-//! What the objects in memory share: counts that stand still at their end, and calls that fail by their numbers.
+//! What the objects in memory share: calls that fail by their numbers, and bytes copied as far as there is room.
 ghost use Rattle.std.specs.Prelude.{◌≡◌, ◌+◌, ◌≤◌, ◌-◌, ◌↔◌, ◌++◌, min, take, drop, length, Contains, IsTrue};
 ghost use Rattle.port_io.specs.Causes.{raised};
 
-/// Raises a count by one.
-pub(crate) fn raise(count: &mut u64)
-    ensures { count.new ≡ raised count.old }
-{
-    *count = count.saturating_add(1);
-}
+use crate::counts::raise;
 
 /// Whether the call of this number is to fail, and counts it.
 pub(crate) fn is_failing(calls: &mut u64, fails: &[u64]) -> bool

@@ -6,7 +6,8 @@ ghost use Rattle.port_io.specs.Causes.{HasCause, raised};
 ghost use Rattle.port_io.specs.Source.{ReadsFrom, SaysEnd};
 ghost use Rattle.port_io.specs.Library.{OpensFile, IsFreshLog, strays_after};
 
-use crate::memory_calls::{copy_some, is_failing, raise};
+use crate::counts::raise;
+use crate::memory_calls::{copy_some, is_failing};
 use crate::memory_log::MemLog;
 use crate::{Failed, Library};
 

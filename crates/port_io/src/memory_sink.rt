@@ -5,7 +5,8 @@ ghost use Rattle.port_io.specs.OtherSide.{no_other_side};
 ghost use Rattle.port_io.specs.Sink.{TakesSome, Writes};
 ghost use Rattle.port_io.specs.MemoryWriter.{unwritten, WritesMemory};
 
-use crate::memory_calls::{is_failing, raise, write_over};
+use crate::counts::raise;
+use crate::memory_calls::{is_failing, write_over};
 use crate::{Failed, Sink};
 
 /// A sink that writes over bytes in memory.

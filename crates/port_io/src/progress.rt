@@ -5,7 +5,8 @@ ghost use Rattle.port_io.specs.Source.{ReadsFrom, SaysEnd, Takes};
 ghost use Rattle.port_io.specs.MemoryReader.{bytes_left, bytes_taken, ReadsMemory};
 
 use crate::Failed;
-use crate::memory_calls::{copy_some, is_failing, raise};
+use crate::counts::raise;
+use crate::memory_calls::{copy_some, is_failing};
 
 /// How far reads over some bytes have come.
 #[derive(Drop)]
