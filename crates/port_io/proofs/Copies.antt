@@ -5,7 +5,6 @@ use Rattle.std.proofs.Math.Seq.{take-add, take-append-add}
 use Rattle.std.proofs.lemmas.Grind.{common_steps}
 use borrow.Rule.Slice.PartMut.{put_mid, post_of}
 use Rattle.std.specs.List.{between}
-use Rattle.port_io.specs.MemoryReader.{MemoryReader, bytes_left, bytes_taken}
 
 -- the bytes copied, then those that stand past them
 pub left_parted : (bytes to : List ℕ) (p n : ℕ) → take n to ≡ take n (between p (length bytes) bytes) → Some (drop p bytes) ≡ Some (take n to ++ drop (p + n) bytes)

@@ -1,9 +1,9 @@
 -- A file in memory by its name, in the list of files and in the map that they stand for.
-use Rattle.std.proofs.Common.{◌≡◌, ℕ, List, [], ◌∷◌, Bool, true, false, cond, Option, None, Some, string_bytes, refl, sym, ap, ◌∙◌}
-use Rattle.std.specs.Option.{option_map, is_some}
+use Rattle.std.proofs.Common.{◌≡◌, ℕ, List, [], ◌∷◌, Bool, true, false, cond, None, Some, string_bytes, refl, sym, ap, ◌∙◌}
+use Rattle.std.specs.Option.{option_map}
 use Rattle.std.specs.Str.{bytes_eq}
 use Rattle.port_io.specs.Causes.{raised}
-use Rattle.port_io.specs.Library.{named, OpensFile, IsFreshLog, strays_after}
+use Rattle.port_io.specs.Library.{named, OpensFile, IsFreshLog}
 use Rattle.port_io.specs.MemoryReader.{MemoryReader, bytes_left, bytes_taken}
 use Rattle.port_io.specs.MemFile.{entries_of, file_named, unread_file}
 use Rattle.port_io.specs.MemoryLibrary.{MemoryLibrary, after_open}

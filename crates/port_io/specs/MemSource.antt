@@ -4,4 +4,3 @@ use Rattle.port_io.specs.declared.memory_source.MemSource.{MemSource}
 
 abbrev pub source_reader : MemSource → MemoryReader
 source_reader s = reader s.bytes.items s.step s.fails.items s.progress
-

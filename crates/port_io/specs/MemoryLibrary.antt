@@ -1,5 +1,5 @@
 -- A library in memory: its files, which of its calls fail, and the file that is begun.
-use Rattle.std.specs.Prelude.{◌≡◌, ℕ, min, List, [], length, drop, Bool, true, false, if◌then◌else◌, ◌↔◌, ◌⊎◌, Option, None, Some, Result, Ok, Err, is_ok, IsErr, OnOk, OnErr, IfOk, Contains}
+use Rattle.std.specs.Prelude.{◌≡◌, ℕ, min, List, [], length, drop, Bool, true, false, if◌then◌else◌, ◌↔◌, ◌⊎◌, None, Some, Result, Ok, Err, is_ok, IsErr, OnOk, OnErr, IfOk, Contains}
 use Rattle.std.specs.Option.{option_map}
 use Rattle.port_io.specs.Causes.{raised}
 use Rattle.port_io.specs.Library.{strays_after}

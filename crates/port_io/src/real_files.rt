@@ -1,5 +1,5 @@
 //! Files of the system, by their paths. What they hold is not told.
-ghost use Rattle.std.specs.Prelude.{◌≡◌, None, is_some, refl};
+ghost use Rattle.std.specs.Prelude.{◌≡◌, false, None, is_some, refl};
 ghost use Rattle.port_io.specs.Causes.{HasCause};
 ghost use Rattle.port_io.specs.OtherSide.{no_other_side};
 
@@ -51,7 +51,11 @@ pub struct FileLibrary {
 
 impl FileLibrary {
     /// The files of the system, none of them begun.
-    pub fn new(rt: HostRuntime) -> FileLibrary {
+    pub fn new(rt: HostRuntime) -> FileLibrary
+        ensures begun { ⟦<FileLibrary as Library>⟧.begun result ≡ false }
+        ensures open_faults { ⟦<FileLibrary as Library>⟧.open_faults result ≡ 0 }
+        ensures more_faults { ⟦<FileLibrary as Library>⟧.more_faults result ≡ 0 }
+    {
         FileLibrary {
             rt,
             begun: None,

@@ -1,5 +1,5 @@
 //! The standard output and error of the process. What was written is not told.
-ghost use Rattle.std.specs.Prelude.{◌≤◌, length, None, IfOk};
+ghost use Rattle.std.specs.Prelude.{◌≡◌, ◌≤◌, length, None, IfOk};
 ghost use Rattle.port_io.specs.Causes.{HasCause};
 ghost use Rattle.port_io.specs.OtherSide.{no_other_side};
 ghost use Rattle.port_io.specs.Sink.{TakesSome};
@@ -31,7 +31,9 @@ pub struct OutSink {
 
 impl OutSink {
     /// The standard output of the process.
-    pub fn new(rt: HostRuntime) -> OutSink {
+    pub fn new(rt: HostRuntime) -> OutSink
+        ensures { ⟦<OutSink as Sink>⟧.write_faults result ≡ 0 }
+    {
         OutSink {
             stream: rt.stdout(),
             faults: 0,
@@ -60,7 +62,9 @@ pub struct ErrSink {
 
 impl ErrSink {
     /// The standard error of the process.
-    pub fn new(rt: HostRuntime) -> ErrSink {
+    pub fn new(rt: HostRuntime) -> ErrSink
+        ensures { ⟦<ErrSink as Sink>⟧.write_faults result ≡ 0 }
+    {
         ErrSink {
             stream: rt.stderr(),
             faults: 0,
