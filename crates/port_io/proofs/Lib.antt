@@ -2,3 +2,4 @@ pub mod Known
 pub mod Pieces
 pub mod Refusals
 pub mod Copies
+pub mod Opened

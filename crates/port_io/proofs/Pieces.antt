@@ -1,5 +1,5 @@
 -- A piece that is written part by part.
-use Rattle.std.proofs.Common.{◌≡◌, ℕ, ◌+◌, ◌<◌, ◌≤◌, List, ◌++◌, length, take, drop, Option, refl, sym, ap, ◌∙◌, arith, append_assoc, length-append}
+use Rattle.std.proofs.Common.{◌≡◌, ℕ, ◌<◌, List, ◌++◌, length, take, Option, refl, sym, ap, ◌∙◌, arith, append_assoc, length-append}
 use Rattle.std.proofs.lemmas.List.{take_at, take_rest, take-append-drop}
 use Rattle.std.specs.List.{between}
 use Rattle.std.specs.Io.KnownBytes.{append_known}
@@ -19,5 +19,6 @@ done_in_part piece done rest before now parted some written = (length done, shor
   where
     shorter : length done < length piece
     shorter = omega (arith, ap length parted, length-append done rest)
+
     front : take (length done) piece ≡ done
     front = ap (λ (l : List ℕ). take (length done) l) parted ∙ take_at done rest (length done) refl

@@ -1,5 +1,5 @@
 -- What the calls that read to the end answer where a chunk was not kept.
-use Rattle.std.proofs.Common.{◌≡◌, ◌↔◌, ℕ, ◌+◌, ◌<◌, ◌≤◌, List, ◌++◌, length, take, Option, Result, Ok, Err, Vec, refl, ◌∙◌, ap, subst, arith, length-append}
+use Rattle.std.proofs.Common.{◌≡◌, ◌↔◌, ℕ, ◌+◌, ◌<◌, List, ◌++◌, length, Option, Result, Err, Vec, refl, ◌∙◌, ap, subst, arith, length-append}
 use Rattle.std.specs.Prelude.{IsErrOf}
 use Rattle.std.specs.declared.alloc.Global.{Global}
 use Rattle.std.specs.Io.KnownBytes.{prepend_known, append_known}
@@ -18,7 +18,7 @@ use Rattle.port_io.proofs.Known.{append_known-append, prepend_known-prepend}
 pub moves_more : (left was now taken had has : Option (List ℕ)) (moved chunk : List ℕ) → Moves left was taken had moved → was ≡ prepend_known chunk now → has ≡ append_known had chunk → Moves left now taken has (moved ++ chunk)
 moves_more left was now taken had has moved chunk moves left_fewer taken_more = record {
   left_fewer = moves.left_fewer ∙ ap (prepend_known moved) left_fewer ∙ prepend_known-prepend now moved chunk;
-  taken_more = taken_more ∙ ap (λ (o : Option (List ℕ)). append_known o chunk) moves.taken_more ∙ append_known-append taken moved chunk
+  taken_more = taken_more ∙ ap (λ (o : Option (List ℕ)). append_known o chunk) moves.taken_more ∙ append_known-append taken moved chunk;
 }
 
 -- one more chunk of the file that was opened
@@ -45,6 +45,7 @@ refused_whole limit moved overrun.Memory refusal result is_err is exactly =
 
 -- a chunk that was refused for its length is one that passes the limit
 pub long_exactly : {T : Type 0} (limit held : ℕ) (bytes chunk : List ℕ) (why : Overrun) (result : Result T Overrun) → held ≡ length bytes → result ≡ Err why → IsErrOf result overrun.Long ↔ (limit < held + length chunk) → (why ≡ overrun.Long) ↔ (limit < length (bytes ++ chunk))
-long_exactly limit held bytes chunk why result holds is_err exactly =
-    (λ e. let more = exactly.0 (is_err ∙ ap (λ o. Err o) e) in omega (arith, length-append bytes chunk),
-    λ more. let e = exactly.1 (omega (arith, length-append bytes chunk)) in cc)
+long_exactly limit held bytes chunk why result holds is_err exactly = (
+  λ e. let more = exactly.0 (is_err ∙ ap (λ o. Err o) e) in omega (arith, length-append bytes chunk),
+  λ more. let e = exactly.1 (omega (arith, length-append bytes chunk)) in cc,
+)

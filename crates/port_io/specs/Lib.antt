@@ -8,3 +8,9 @@ pub mod Overrun
 pub mod MemoryReader
 pub mod Progress
 pub mod MemSource
+pub mod MemoryWriter
+pub mod MemSink
+pub mod MemFile
+pub mod MemoryLibrary
+pub mod MemLibrary
+pub mod MemLog

@@ -1,7 +1,7 @@
 use Rattle.port_io.specs.MemoryReader.{MemoryReader}
 use Rattle.port_io.specs.Progress.{reader}
-use Rattle.port_io.specs.declared.memory_reader.MemSource.{MemSource}
+use Rattle.port_io.specs.declared.memory_source.MemSource.{MemSource}
 
+-- a source as a reader over the bytes that it owns
 abbrev pub source_reader : MemSource → MemoryReader
 source_reader s = reader s.bytes.items s.step s.fails.items s.progress
-

@@ -18,10 +18,11 @@ pub record MemoryReader : Type 0 where
 abbrev pub unread : List ℕ → ℕ → List ℕ → MemoryReader
 unread bytes step fails = record { bytes = bytes; place = 0; step = step; fails = fails; calls = 0; faults = 0; ended = false }
 
--- the bytes that reads have not given, and those that they have
+-- the bytes that reads have not given
 abbrev pub bytes_left : MemoryReader → Option (List ℕ)
 bytes_left r = Some (drop r.place r.bytes)
 
+-- the bytes that reads have given
 abbrev pub bytes_taken : MemoryReader → Option (List ℕ)
 bytes_taken r = Some (take r.place r.bytes)
 

@@ -1,7 +1,7 @@
 -- How far reads over some bytes have come, with those bytes.
 use Rattle.std.specs.Prelude.{ℕ, List}
 use Rattle.port_io.specs.MemoryReader.{MemoryReader}
-use Rattle.port_io.specs.declared.memory_reader.Progress.{Progress}
+use Rattle.port_io.specs.declared.progress.Progress.{Progress}
 
 -- the reader over these bytes with this step and these failing reads
 abbrev pub reader : List ℕ → ℕ → List ℕ → Progress → MemoryReader

@@ -1,13 +1,8 @@
-//! What the objects in memory share: counts that stand still at their end, and calls that fail by their numbers.
-ghost use Rattle.std.specs.Prelude.{◌≡◌, ◌≤◌, ◌-◌, ◌↔◌, min, take, drop, length, Contains, IsTrue};
+//! What the objects in memory share: calls that fail by their numbers, and bytes copied as far as there is room.
+ghost use Rattle.std.specs.Prelude.{◌≡◌, ◌+◌, ◌≤◌, ◌-◌, ◌↔◌, ◌++◌, min, take, drop, length, Contains, IsTrue};
 ghost use Rattle.port_io.specs.Causes.{raised};
 
-/// Raises a count by one.
-pub(crate) fn raise(count: &mut u64)
-    ensures { count.new ≡ raised count.old }
-{
-    *count = count.saturating_add(1);
-}
+use crate::counts::raise;
 
 /// Whether the call of this number is to fail, and counts it.
 pub(crate) fn is_failing(calls: &mut u64, fails: &[u64]) -> bool
@@ -28,4 +23,13 @@ pub(crate) fn copy_some(from: &[u8], most: usize, to: &mut [u8]) -> usize
     let count = most.min(to.len()).min(from.len());
     to[..count].copy_from_slice(&from[..count]);
     count
+}
+
+/// Writes the first bytes of `piece` over those of `room` from `place` on, `most` of them at most, and answers how many.
+pub(crate) fn write_over(room: &mut [u8], place: usize, piece: &[u8], most: usize) -> usize
+    requires { place ≤ length room.old }
+    ensures count { result ≡ min (min most (length piece.now)) (length room.old - place) }
+    ensures written { take (place + result) room.new ≡ take place room.old ++ take result piece.now }
+{
+    copy_some(piece, most, &mut room[place..])
 }

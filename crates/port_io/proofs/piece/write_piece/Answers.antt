@@ -7,7 +7,7 @@ pub loop-rest-preserved : goal.loop-rest-preserved
 loop-rest-preserved g c = record {
   parted = done_more c.args.piece.now _ c.loop-rest.rest.now c.in_ok-count.count _ _ _ c.loop-rest.invariant.parted.1 c.loop-rest.invariant.parted.2 c.in_ok-count.ensures.written;
   other = c.in_ok-count.ensures.other ∙ c.loop-rest.invariant.other;
-  later = omega (arith, c.in_ok-count.ensures.cause.later)
+  later = omega (arith, c.in_ok-count.ensures.cause.later);
 }
 
 pub returns-in_err-count-clause-written : goal.returns-in_err-count-clause-written

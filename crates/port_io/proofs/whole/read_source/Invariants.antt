@@ -9,7 +9,7 @@ invariant-loop-count g l = record {
   within : vec_len l.bytes ≤ l.limit;
   ended : g.S.Source.ended l.source ≡ g.S.Source.ended l.fn.source;
   later : g.S.Source.read_faults l.fn.source ≤ g.S.Source.read_faults l.source;
-  other : g.S.Source.other l.source ≡ g.S.Source.other l.fn.source
+  other : g.S.Source.other l.source ≡ g.S.Source.other l.fn.source;
 }
 
 abbrev pub decreases-loop-count : goal.decreases-loop-count

@@ -12,7 +12,7 @@ invariant-loop-count g l = record {
   files : g.B.Library.files l.library ≡ g.B.Library.files l.fn.library;
   opens_later : g.B.Library.open_faults l.fn.library ≤ g.B.Library.open_faults l.library;
   reads_later : g.B.Library.more_faults l.fn.library ≤ g.B.Library.more_faults l.library;
-  strays : g.B.Library.strays l.library ≡ strays_after (g.B.Library.files l.fn.library) l.fn.name (g.B.Library.strays l.fn.library)
+  strays : g.B.Library.strays l.library ≡ strays_after (g.B.Library.files l.fn.library) l.fn.name (g.B.Library.strays l.fn.library);
 }
 
 abbrev pub decreases-loop-count : goal.decreases-loop-count

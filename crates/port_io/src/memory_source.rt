@@ -1,64 +1,13 @@
-//! Sources in memory: one that owns its bytes, and a log that borrows a file's.
-ghost use Rattle.std.specs.Prelude.{◌≡◌, ◌<◌, ◌≤◌, length, false, refl};
+//! A source in memory that owns its bytes.
+ghost use Rattle.std.specs.Prelude.{◌≡◌, ◌<◌, ◌≤◌, length, refl};
 ghost use Rattle.std.specs.Io.{ReadsAtMost};
 ghost use Rattle.port_io.specs.Causes.{HasCause};
 ghost use Rattle.port_io.specs.OtherSide.{no_other_side};
 ghost use Rattle.port_io.specs.Source.{ReadsFrom, SaysEnd, Takes, ended_after};
 ghost use Rattle.port_io.specs.MemoryReader.{unread, bytes_left, bytes_taken, ReadsMemory};
 
-use crate::memory_calls::{copy_some, is_failing, raise};
+use crate::progress::Progress;
 use crate::{Failed, Source};
-
-/// How far reads over some bytes have come.
-#[derive(Drop)]
-struct Progress {
-    place: usize,
-    calls: u64,
-    faults: u64,
-    ended: bool,
-}
-
-impl Progress {
-    ghost use Rattle.port_io.specs.Progress.{reader};
-
-    /// No read was made yet.
-    fn new() -> Progress
-        ensures { result ≡ record { place = 0; calls = 0; faults = 0; ended = false } }
-    {
-        Progress {
-            place: 0,
-            calls: 0,
-            faults: 0,
-            ended: false,
-        }
-    }
-
-    /// One read over these bytes.
-    fn read(&mut self, bytes: &[u8], step: usize, fails: &[u64], buf: &mut [u8]) -> Result<usize, Failed>
-        requires within { self.old.place ≤ length bytes.now }
-        requires steps { 1 ≤ step }
-        requires room { 0 < length buf.old }
-
-        ensures within { self.new.place ≤ length bytes.now }
-        ensures bound { ReadsAtMost result buf.new }
-        ensures left { ReadsFrom (bytes_left (reader bytes.now step fails.now self.old))
-            (bytes_left (reader bytes.now step fails.now self.new)) result buf.new }
-        ensures end { SaysEnd (bytes_left (reader bytes.now step fails.now self.old)) result }
-        ensures taken { Takes (bytes_taken (reader bytes.now step fails.now self.old))
-            (bytes_taken (reader bytes.now step fails.now self.new)) result buf.new }
-        ensures exact { ReadsMemory (reader bytes.now step fails.now self.old)
-            (reader bytes.now step fails.now self.new) result buf.new }
-    {
-        if is_failing(&mut self.calls, fails) {
-            raise(&mut self.faults);
-            return Err(Failed);
-        }
-        let count = copy_some(&bytes[self.place..], step, buf);
-        self.place += count;
-        self.ended = self.ended || count == 0;
-        Ok(count)
-    }
-}
 
 /// A source over bytes in memory.
 #[derive(Drop)]
