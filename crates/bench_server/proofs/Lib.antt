@@ -5,3 +5,6 @@ pub mod FrameLaws
 pub mod LogLaws
 pub mod TextLaws
 pub mod WordLaws
+pub mod WholeLaws
+pub mod WritingLaws
+pub mod Sequences

@@ -1,5 +1,5 @@
 -- The operands of many words.
-use Rattle.std.proofs.Common.{◌≡◌, ℕ, Bool, true, false, cond, List, [], ◌∷◌, Option, Some, None, refl}
+use Rattle.std.proofs.Common.{◌≡◌, ℕ, Bool, true, false, cond, List, [], ◌∷◌, Option, Some, None, refl, sym, ◌≤◌, length, arith}
 use Rattle.std.specs.Option.{option_map}
 use Rattle.bench_server.specs.Words.{is_option, is_dashes, operands, only_operand}
 
@@ -23,3 +23,10 @@ first_of false false b c rest x h = h
 pub too_many : (a b c : List ℕ) (rest : List (List ℕ)) → only_operand (operands (a ∷ b ∷ c ∷ rest)) ≡ None
 too_many a b c rest =
     first_of (is_dashes a) (is_option a) b c rest _ (second_of (is_dashes b) (is_option b) a b c rest (operands (c ∷ rest)))
+
+-- the same of a list of three words at least
+pub many : (words : List (List ℕ)) → 3 ≤ length words → None ≡ only_operand (operands words)
+many [] h = absurd (omega arith)
+many (a ∷ []) h = absurd (omega arith)
+many (a ∷ b ∷ []) h = absurd (omega arith)
+many (a ∷ b ∷ c ∷ rest) h = sym (too_many a b c rest)

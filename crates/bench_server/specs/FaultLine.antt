@@ -1,5 +1,5 @@
 -- The lines of the error output.
-use Rattle.std.specs.Prelude.{◌≡◌, ◌⊎◌, ℕ, ◌≤◌, List, [], ◌∷◌, ◌++◌, length, take, codes, Option, Some, None, Result, OnOk, OnErr}
+use Rattle.std.specs.Prelude.{◌≡◌, ◌⊎◌, ℕ, ◌≤◌, List, [], ◌∷◌, ◌++◌, codes, Option, Some, None}
 use Rattle.std.specs.Fmt.{decimal}
 use Rattle.std.specs.Io.KnownBytes.{append_known}
 use Rattle.port_io.specs.Causes.{Rose}
@@ -25,9 +25,3 @@ pub record Reports (before now : Option (List ℕ)) (faults faults_now : ℕ) (l
   pub appended : now ≡ append_known before sent
   pub later : faults ≤ faults_now
   pub cut : (rest ≡ []) ⊎ Rose faults faults_now
-
--- Ok appended the whole text; a failure appended a front of it, and the sink's count of faults rose
-pub record Sends {E : Type 0} (before now : Option (List ℕ)) (faults faults_now : ℕ) (result : Result (Unit {0}) E) (text : List ℕ) : Type 0 where
-  pub later : faults ≤ faults_now
-  pub whole : OnOk result (now ≡ append_known before text)
-  pub part : OnErr result ((sent : List ℕ) × (rest : List ℕ) × (sent ++ rest ≡ text) × (now ≡ append_known before sent) × Rose faults faults_now)

@@ -10,3 +10,7 @@ pub mod Decoded
 pub mod TextView
 pub mod WordView
 pub mod FaultLine
+pub mod Tool
+pub mod Writing
+pub mod Records
+pub mod WholeBench

@@ -1,5 +1,5 @@
 -- Words behind references.
-use Rattle.std.specs.Prelude.{◌≡◌, ℕ, List, map, string_bytes}
+use Rattle.std.specs.Prelude.{◌≡◌, ℕ, List, map, flat_map, string_bytes}
 use Rattle.std.specs.Fmt.{decimal}
 use Rattle.std.specs.Borrow.{Bor}
 use Rattle.bench_model.specs.declared.reading.Reading.{Reading}
@@ -13,3 +13,7 @@ pub record IsStampOf (stamp : Stamp) (r : Reading) : Type 0 where
   pub number : string_bytes stamp.number ≡ decimal r.number
   pub version : string_bytes stamp.version ≡ decimal r.version
   pub micros : string_bytes stamp.micros ≡ decimal r.micros
+
+-- pieces one after another
+abbrev pub joined : List (Bor (List ℕ)) → List ℕ
+joined pieces = flat_map (λ piece. piece.now) pieces

@@ -1,12 +1,13 @@
 //! The text of a session's items.
 
 ghost use Rattle.std.specs.Prelude.{◌≡◌, ◌≤◌, ◌++◌, [], ◌∷◌, map, flat_map, All, OnOk, IfOk};
-ghost use Rattle.bench_model.specs.declared.reading.Body.TheVariants as Body;
-ghost use Rattle.bench_model.specs.declared.reading.Item.TheVariants as Item;
-ghost use Rattle.bench_server.specs.ItemText.{line_of, hex_digit, hex_digits, hex_bytes, key_text, quoted_byte, quoted, signal_line, signal_lines, body_text, item_text};
+ghost use Rattle.bench_model.specs.declared.reading.Body.TheVariants as Bodies;
+ghost use Rattle.bench_model.specs.declared.reading.Item.TheVariants as Items;
+ghost use Rattle.bench_server.specs.ItemText.{line_of, hex_digit, hex_digits, hex_bytes, key_text, quoted_byte, quoted, signal_line, signal_lines, body_text, reading_text, item_text};
+ghost use Rattle.bench_server.specs.WholeBench.{IsFrameBody};
 ghost use Rattle.bench_server.specs.TextView.{texts, IsStampOf};
 
-use bench_model::{Key, Reading, SignalValue, Text};
+use bench_model::{Body, Key, Reading, SignalValue, Text};
 use std::alloc::{AllocError, Global};
 
 /// Appends a line of these words.
@@ -150,7 +151,7 @@ fn push_message(
     signals: &[SignalValue],
 ) -> Result<(), AllocError>
     requires { All (λ s. s.value.k ≡ 0) signals.now }
-    ensures { OnOk result (out.new.items ≡ out.old.items ++ body_text bus.now reading.now (Body.Message name.now signals.now)) }
+    ensures { OnOk result (out.new.items ≡ out.old.items ++ body_text bus.now reading.now (Bodies.Message name.now signals.now)) }
 {
     let stamp = stamp_of(alloc, reading)?;
     let words = [
@@ -173,7 +174,7 @@ fn push_unmatched(
     key: Key,
     bytes: &[u8],
 ) -> Result<(), AllocError>
-    ensures { OnOk result (out.new.items ≡ out.old.items ++ body_text bus.now reading.now (Body.Unmatched key bytes.now)) }
+    ensures { OnOk result (out.new.items ≡ out.old.items ++ body_text bus.now reading.now (Bodies.Unmatched key bytes.now)) }
 {
     let stamp = stamp_of(alloc, reading)?;
     let mut frame = key_digits(alloc, key)?;
@@ -189,6 +190,27 @@ fn push_unmatched(
     push_line(out, b"u", &words)
 }
 
+/// Appends the text of a classic frame's record.
+pub(crate) fn push_reading(
+    alloc: Global,
+    out: &mut Vec<u8>,
+    bus: &[u8],
+    reading: &Reading,
+) -> Result<(), AllocError>
+    requires { IsFrameBody reading.now.body }
+    ensures { OnOk result (out.new.items ≡ out.old.items ++ reading_text bus.now reading.now) }
+{
+    match &reading.body {
+        Body::Message { name, signals } => {
+            push_message(alloc, out, bus, reading, name, signals.items())
+        }
+        Body::Unmatched { key, bytes } => {
+            push_unmatched(alloc, out, bus, reading, *key, bytes.bytes())
+        }
+        _ => unreachable!(),
+    }
+}
+
 /// Appends the text of the start of a bus's stretch.
 pub(crate) fn push_start(
     alloc: Global,
@@ -196,7 +218,7 @@ pub(crate) fn push_start(
     bus: &[u8],
     number: u64,
 ) -> Result<(), AllocError>
-    ensures { OnOk result (out.new.items ≡ out.old.items ++ item_text bus.now (Item.Start 0 number 0)) }
+    ensures { OnOk result (out.new.items ≡ out.old.items ++ item_text bus.now (Items.Start 0 number 0)) }
 {
     let number = number.to_string(alloc)?;
     push_line(out, b"start", &[bus, number.as_bytes()])
@@ -209,7 +231,7 @@ pub(crate) fn push_end(
     bus: &[u8],
     number: u64,
 ) -> Result<(), AllocError>
-    ensures { OnOk result (out.new.items ≡ out.old.items ++ item_text bus.now (Item.End 0 number)) }
+    ensures { OnOk result (out.new.items ≡ out.old.items ++ item_text bus.now (Items.End 0 number)) }
 {
     let number = number.to_string(alloc)?;
     push_line(out, b"end", &[bus, number.as_bytes()])

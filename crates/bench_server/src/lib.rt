@@ -2,6 +2,7 @@
 #![tactic(auto)]
 
 mod bench_file;
+mod decode;
 mod item_text;
 mod log_file;
 mod report;

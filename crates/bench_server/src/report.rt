@@ -1,56 +1,45 @@
 //! The line that a status appends to the error output.
 
-ghost use Rattle.std.specs.Prelude.{◌≡◌, ◌++◌, ◌∷◌, [], OnOk, OnErr};
-ghost use Rattle.std.specs.Fmt.{decimal};
-ghost use Rattle.bench_server.specs.FaultLine.{fault_line, Reports, Sends};
+ghost use Rattle.std.specs.Prelude.{◌≡◌};
+ghost use Rattle.bench_server.specs.TextView.{joined};
+ghost use Rattle.bench_server.specs.FaultLine.{fault_line, Reports};
 
 use crate::Status;
 use itoa::Buffer;
-use port_io::{Failed, Sink, write_piece};
+use port_io::{Sink, write_piece};
 
-/// Appends a number's digits.
-fn write_number<E: Sink>(err: &mut E, n: u64) -> Result<(), Failed>
-    ensures { Sends (E.written err.old) (E.written err.new) (E.write_faults err.old) (E.write_faults err.new) result (decimal n) }
+/// Appends pieces, as far as the sink takes them.
+fn write_pieces<E: Sink>(err: &mut E, pieces: &[&[u8]])
+    ensures { Reports (E.written err.old) (E.written err.new) (E.write_faults err.old) (E.write_faults err.new) (joined pieces.now) }
 {
-    let mut buffer = Buffer::new();
-    write_piece(err, buffer.format(n).as_bytes())
-}
-
-/// Appends the line of a form that is not accepted.
-fn write_not_built<E: Sink>(err: &mut E, file: u32, line: u64) -> Result<(), Failed>
-    ensures { Sends (E.written err.old) (E.written err.new) (E.write_faults err.old) (E.write_faults err.new) result (fault_line [] (Status.NotBuilt file line)) }
-{
-    write_piece(err, b"notbuilt ")?;
-    write_number(err, u64::from(file))?;
-    write_piece(err, b" ")?;
-    write_number(err, line)?;
-    write_piece(err, b"\n")
-}
-
-/// Appends the line of a log that could not be read, by its bus's name.
-fn write_read_fault<E: Sink>(err: &mut E, name: &[u8]) -> Result<(), Failed>
-    ensures { Sends (E.written err.old) (E.written err.new) (E.write_faults err.old) (E.write_faults err.new) result (fault_line name.now (Status.ReadFault (Some 0))) }
-{
-    write_piece(err, b"read ")?;
-    write_piece(err, name)?;
-    write_piece(err, b"\n")
+    for piece in pieces {
+        let Ok(()) = write_piece(err, piece) else {
+            return;
+        };
+    }
 }
 
 /// Appends the line of a status, for the bus of this name, as far as the sink takes it.
 pub(crate) fn report<E: Sink>(err: &mut E, name: &[u8], status: &Status)
     ensures { Reports (E.written err.old) (E.written err.new) (E.write_faults err.old) (E.write_faults err.new) (fault_line name.now status.now) }
 {
-    let _ = match status {
-        Status::Ok => Ok(()),
-        Status::Usage => write_piece(
+    match status {
+        Status::Ok => write_pieces(err, &[]),
+        Status::Usage => write_pieces(
             err,
-            b"usage: sigserve decode BENCH | check FILE | mill N | serve BENCH DESK PLACE..\n",
+            &[b"usage: sigserve decode BENCH | check FILE | mill N | serve BENCH DESK PLACE..\n"],
         ),
-        Status::OpenFault => write_piece(err, b"open\n"),
-        Status::ReadFault { bus: None } => write_piece(err, b"read\n"),
-        Status::ReadFault { bus: Some(_) } => write_read_fault(err, name),
-        Status::WriteFault => write_piece(err, b"write\n"),
-        Status::Memory => write_piece(err, b"memory\n"),
-        Status::NotBuilt { file, line } => write_not_built(err, *file, *line),
-    };
+        Status::OpenFault => write_pieces(err, &[b"open\n"]),
+        Status::ReadFault { bus: None } => write_pieces(err, &[b"read\n"]),
+        Status::ReadFault { bus: Some(_) } => write_pieces(err, &[b"read ", name, b"\n"]),
+        Status::WriteFault => write_pieces(err, &[b"write\n"]),
+        Status::Memory => write_pieces(err, &[b"memory\n"]),
+        Status::NotBuilt { file, line } => {
+            let mut file_digits = Buffer::new();
+            let mut line_digits = Buffer::new();
+            let file = file_digits.format(*file).as_bytes();
+            let line = line_digits.format(*line).as_bytes();
+            write_pieces(err, &[b"notbuilt ", file, b" ", line, b"\n"]);
+        }
+    }
 }
