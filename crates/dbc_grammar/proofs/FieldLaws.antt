@@ -1,13 +1,13 @@
 -- What each field was read from, and that what spells a field is read.
-use Rattle.std.proofs.Common.{◌≡◌, ℕ, Bool, true, false, List, [], ◌∷◌, ◌++◌, Option, Some, None, refl, sym, ap, subst, ◌∙◌}
-use Rattle.std.specs.Prelude.{ℤ, ◌&&◌, nat_le, length}
+use Rattle.std.proofs.Common.{◌≡◌, ℕ, true, List, ◌++◌, Some, refl, sym, ap, subst, ◌∙◌}
+use Rattle.std.specs.Prelude.{ℤ, nat_le, length}
 use Rattle.std.specs.List.{list_all}
 use Rattle.std.proofs.lemmas.Bool.{and_parts}
 use Rattle.std.proofs.lemmas.Option.{cond_some, some_pair_parts}
 use Rattle.byte_forms.specs.declared.class.Class.TheVariants.{WordByte, DecimalDigit, SignedDigit, StringByte}
 use Rattle.byte_forms.specs.declared.numerals.Radix.TheVariants.{Decimal}
 use Rattle.byte_forms.specs.Classes.{is_in, is_word}
-use Rattle.byte_forms.specs.Pieces.{◌>>=◌, field_before, is_end_of}
+use Rattle.byte_forms.specs.Pieces.{field_before, is_end_of}
 use Rattle.byte_forms.specs.Numerals.{is_numeral, number_of, number_up_to, signed_decimal, IsSignedNumeral}
 use Rattle.byte_forms.proofs.PieceLaws.{bind_some, field_before-append, field_before_takes}
 use Rattle.byte_forms.proofs.NumberLaws.{number_up_to_takes, number_up_to-is}

@@ -1,15 +1,14 @@
 -- What is gathered from lawful lines keeps the limits of the model, and its scalings are whole.
-use Rattle.std.proofs.Common.{◌≡◌, ◌⊎◌, ℕ, ◌≤◌, ◌^◌, Bool, true, List, [], ◌∷◌, ◌++◌, All, refl, subst, arith, inl, inr}
-use Rattle.std.specs.Prelude.{ℤ, pos, neg_ℤ, ◌<ℤ◌}
+use Rattle.std.proofs.Common.{◌≡◌, ◌⊎◌, ℕ, ◌≤◌, List, [], ◌∷◌, ◌++◌, All, refl, arith, inl, inr}
+use Rattle.std.specs.Prelude.{ℤ, pos, neg_ℤ}
 use Rattle.std.specs.List.{AllByRecursion}
 use Rattle.std.proofs.lemmas.Int.{ints}
 use Rattle.std.proofs.lemmas.List.Elements.{All-from_recursion}
 use Rattle.byte_forms.specs.Numerals.{IsSignedNumeral}
 use Rattle.byte_forms.proofs.SignedLaws.{IsSignedNumeral-size}
-use Rattle.bench_model.specs.declared.database.Message.{Message}
 use Rattle.bench_model.specs.declared.database.Signal.{Signal}
 use Rattle.bench_model.specs.Limits.{IsNumerator, IsLawfulSignal, IsLawfulMessage}
-use Rattle.dbc_grammar.specs.Statement.{Statement, Blank, Version, Begins, Adds, Heading, Field, signal_of, message_of, signals_before_next, gather}
+use Rattle.dbc_grammar.specs.Statement.{Statement, Blank, Version, Begins, Adds, Field, signal_of, signals_before_next, gather}
 use Rattle.dbc_grammar.specs.Spelling.{SpellsField, Spells}
 use Rattle.dbc_grammar.specs.Lawful.{AreLawfulAfter}
 use Rattle.dbc_grammar.specs.Whole.{IsWholeCoding, HasWholeSignals}

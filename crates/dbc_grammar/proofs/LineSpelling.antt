@@ -1,24 +1,15 @@
 -- What a line was read from, and that what spells a statement is read.
-use Rattle.std.proofs.Common.{◌≡◌, ℕ, zero, suc, ◌+◌, ◌<◌, ◌≤◌, Bool, true, false, cond, eqb, List, [], ◌∷◌, ◌++◌, length, Option, Some, None, refl, sym, ap, subst, ◌∙◌, arith, inl, inr}
-use Rattle.std.specs.Prelude.{ℤ, take_while, replicate, codes, ◌==◌}
-use Rattle.std.specs.List.{concat, list_all, prefix_len}
-use Rattle.std.specs.Option.{option_map}
-use Rattle.std.specs.Str.{bytes_eq}
-use Rattle.std.proofs.lemmas.Bool.{cases_Bool, eqb-true, eqb-false, ne_eqb, not_from_true}
+use Rattle.std.proofs.Common.{◌≡◌, ℕ, ◌≤◌, Bool, true, false, cond, eqb, List, [], ◌++◌, Some, None, refl, sym, ap, subst, ◌∙◌, arith}
+use Rattle.std.specs.Prelude.{ℤ, codes}
+use Rattle.std.proofs.lemmas.Bool.{eqb-false, ne_eqb}
 use Rattle.std.proofs.lemmas.List.{append-nil}
-use Rattle.std.proofs.lemmas.List.Sums.{take_while-cons}
 use Rattle.std.proofs.lemmas.Option.{cond_some, same_Some}
-use Rattle.std.proofs.lemmas.Slice.Eq.{bytes_eq-Decides}
-use Rattle.byte_forms.specs.declared.class.Class.TheVariants.{Space}
-use Rattle.byte_forms.specs.Classes.{is_in, drop_while}
-use Rattle.byte_forms.specs.Pieces.{◌>>=◌, after_literal}
 use Rattle.byte_forms.specs.Numerals.{IsSignedNumeral}
-use Rattle.byte_forms.proofs.RunLaws.{take_while-append-drop_while, drop_while-before}
-use Rattle.byte_forms.proofs.PieceLaws.{bind_some, after_literal_takes, after_literal-append}
-use Rattle.dbc_grammar.specs.Statement.{Statement, Blank, Version, Begins, Adds, Heading, Field}
-use Rattle.dbc_grammar.specs.Names.{is_name, is_node, is_unit}
-use Rattle.dbc_grammar.specs.Spelling.{IsNumeral, SpellsHeading, SpellsField, SpellsText, IsIndented, Spells}
-use Rattle.dbc_grammar.specs.Reading.{name_before, number_before, signed_before, unit_before, heading_at, place_at, scaling_at, field_at, statement_by, text_statement, statement_of}
+use Rattle.byte_forms.proofs.PieceLaws.{bind_some}
+use Rattle.dbc_grammar.specs.Statement.{Heading, Field}
+use Rattle.dbc_grammar.specs.Names.{is_node}
+use Rattle.dbc_grammar.specs.Spelling.{IsNumeral, SpellsHeading, SpellsField}
+use Rattle.dbc_grammar.specs.Reading.{name_before, number_before, signed_before, unit_before, heading_at, place_at, scaling_at, field_at}
 use Rattle.dbc_grammar.proofs.FieldLaws.{name_before_takes, name_before-is, number_before_takes, number_before-is, signed_before_takes, signed_before-is, unit_before_takes, unit_before-is}
 
 -- a piece, and the pieces after it
@@ -42,9 +33,9 @@ heading_takes text h e =
       byte_count = byte_count.0;
       node = c.0.1;
       pieces = ap (λ (x : List ℕ). codes "BO_ " ++ x)
-        (next text id.0 (codes " ") a.0.1 _ id.1
+          (next text id.0 (codes " ") a.0.1 _ id.1
           (next a.0.1 b.0.0 (codes ": ") b.0.1 _ name.0
-            (next b.0.1 byte_count.0 (codes " ") c.0.1 _ byte_count.1 (sym (append-nil c.0.1)))));
+          (next b.0.1 byte_count.0 (codes " ") c.0.1 _ byte_count.1 (sym (append-nil c.0.1)))));
       id_is = id.2;
       name_is = name.1;
       byte_count_is = byte_count.2;
@@ -57,12 +48,17 @@ heading-is text h s =
     let last : List ℕ = s.node ++ [] in
     let counted : List ℕ = s.byte_count ++ (codes " " ++ last) in
     let named : List ℕ = h.name ++ (codes ": " ++ counted) in
-    let rest : List ℕ = s.id ++ (codes " " ++ named) in
-    (rest, s.pieces,
-      rw (number_before-is 2047 (codes " ") s.id h.id named s.id_is refl,
+    let rest : List ℕ = s.id ++ (codes " " ++ named) in (
+      rest,
+      s.pieces,
+      rw (
+        number_before-is 2047 (codes " ") s.id h.id named s.id_is refl,
         name_before-is (codes ": ") h.name counted s.name_is refl,
         number_before-is 8 (codes " ") s.byte_count h.byte_count last s.byte_count_is refl,
-        append-nil s.node, s.node_is) refl)
+        append-nil s.node,
+        s.node_is,
+      ) refl,
+    )
 
 -- ---- a signal's line
 
@@ -102,8 +98,11 @@ place-is : (starts sizes : List ℕ) (start size : ℕ) (rest : List ℕ) → Is
 unfolding place_at
 place-is starts sizes start size rest start_is size_is some =
     let other : eqb size 0 ≡ false = ne_eqb size 0 (λ is. absurd (omega arith)) in
-    rw (number_before-is 63 (codes "|") starts start (sizes ++ (codes "@1+ (" ++ rest)) start_is refl,
-      number_before-is 64 (codes "@1+ (") sizes size rest size_is refl, other) refl
+    rw (
+      number_before-is 63 (codes "|") starts start (sizes ++ (codes "@1+ (" ++ rest)) start_is refl,
+      number_before-is 64 (codes "@1+ (") sizes size rest size_is refl,
+      other,
+    ) refl
 
 -- the scaling and the range of a signal as they stand
 record SpellsScaling (text : List ℕ) (scaling : ℤ × ℤ × List ℕ) : Type 0 where
@@ -134,7 +133,7 @@ scaling_takes text scaling e =
       low = low.0;
       high = high.0;
       pieces = next text factor.0 (codes ",") a.0.1 _ factor.1
-        (next a.0.1 offset.0 (codes ") [") b.0.1 _ offset.1
+          (next a.0.1 offset.0 (codes ") [") b.0.1 _ offset.1
           (next b.0.1 low.0 (codes "|") c.0.1 _ low.1 high.1));
       factor_is = factor.2;
       offset_is = offset.2;
@@ -149,10 +148,12 @@ unfolding scaling_at
 scaling-is factors offsets lows highs factor offset low high rest factor_is offset_is low_is high_is =
     let highest : List ℕ = highs ++ (codes "] \"" ++ rest) in
     let lowest : List ℕ = lows ++ (codes "|" ++ highest) in
-    rw (signed_before-is (codes ",") factors factor (offsets ++ (codes ") [" ++ lowest)) factor_is refl,
+    rw (
+      signed_before-is (codes ",") factors factor (offsets ++ (codes ") [" ++ lowest)) factor_is refl,
       signed_before-is (codes ") [") offsets offset lowest offset_is refl,
       signed_before-is (codes "|") lows low highest low_is refl,
-      signed_before-is (codes "] \"") highs high rest high_is refl) refl
+      signed_before-is (codes "] \"") highs high rest high_is refl,
+    ) refl
 
 pub field_takes : (text : List ℕ) (f : Field) → field_at text ≡ Some f → SpellsField (codes "SG_ " ++ text) f
 unfolding field_at
@@ -197,10 +198,15 @@ field-is text f s =
     let united : List ℕ = f.unit ++ (codes "\" " ++ last) in
     let scaled : List ℕ = s.factor ++ (codes "," ++ (s.offset ++ (codes ") [" ++ (s.low ++ (codes "|" ++ (s.high ++ (codes "] \"" ++ united))))))) in
     let placed : List ℕ = s.start ++ (codes "|" ++ (s.size ++ (codes "@1+ (" ++ scaled))) in
-    let rest : List ℕ = f.name ++ (codes " : " ++ placed) in
-    (rest, s.pieces,
-      rw (name_before-is (codes " : ") f.name placed s.name_is refl,
+    let rest : List ℕ = f.name ++ (codes " : " ++ placed) in (
+      rest,
+      s.pieces,
+      rw (
+        name_before-is (codes " : ") f.name placed s.name_is refl,
         place-is s.start s.size f.start f.size scaled s.start_is s.size_is s.some_bits,
         scaling-is s.factor s.offset s.low s.high f.factor f.offset s.low_is.0 s.high_is.0 united s.factor_is s.offset_is s.low_is.1 s.high_is.1,
         unit_before-is (codes "\" ") f.unit last s.unit_is refl,
-        append-nil s.node, s.node_is) refl)
+        append-nil s.node,
+        s.node_is,
+      ) refl,
+    )

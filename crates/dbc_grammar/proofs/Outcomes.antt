@@ -1,8 +1,8 @@
 -- Reading line by line.
-use Rattle.std.proofs.Common.{◌≡◌, ℕ, ◌+◌, List, [], ◌∷◌, ◌++◌, Option, Some, None, Result, Ok, Err, refl}
+use Rattle.std.proofs.Common.{◌≡◌, ℕ, ◌+◌, List, [], ◌∷◌, Some, None, Ok, Err, refl}
 use Rattle.bench_model.specs.declared.database.Message.{Message}
 use Rattle.dbc_grammar.specs.Statement.{Statement}
-use Rattle.dbc_grammar.specs.Reading.{statement_after, with_statement, outcome_by, outcome}
+use Rattle.dbc_grammar.specs.Reading.{statement_after, with_statement, outcome}
 
 -- a line that says nothing that may follow
 pub outcome-stops : (messages : List Message) (count : ℕ) (line : List ℕ) (lines : List (List ℕ)) → statement_after messages line ≡ None → outcome messages count (line ∷ lines) ≡ Err (count + 1)

@@ -1,12 +1,11 @@
 -- What follows of a file from what reading its lines gives.
-use Rattle.std.proofs.Common.{◌≡◌, ℕ, ◌<◌, ◌≤◌, List, [], length, All, Result, Ok, Err, refl, sym, ap, subst, ◌∙◌, arith, inl, inr}
+use Rattle.std.proofs.Common.{◌≡◌, ℕ, ◌≤◌, List, [], length, All, Ok, refl, sym, ap, subst, ◌∙◌, arith, inl, inr}
 use Rattle.byte_forms.specs.Lines.{all_lines}
 use Rattle.bench_model.specs.declared.database.Message.{Message}
 use Rattle.bench_model.specs.declared.database.Database.{Database}
 use Rattle.bench_model.specs.Limits.{IsLawfulMessage}
 use Rattle.dbc_grammar.specs.declared.fault.DbcFault.{DbcFault}
 use Rattle.dbc_grammar.specs.declared.fault.DbcFault.TheVariants as faults
-use Rattle.dbc_grammar.specs.Statement.{gather}
 use Rattle.dbc_grammar.specs.Lawful.{IsFirstFault}
 use Rattle.dbc_grammar.specs.Reading.{outcome}
 use Rattle.dbc_grammar.specs.Gives.{Names}
@@ -90,13 +89,13 @@ pub one_line : (bytes : List ℕ) (m n : ℕ) → IsRefusedAt bytes m → IsRefu
 one_line bytes m n first second =
     elim first [
       | inl long ↦ elim second [
-          | inl also ↦ long.1 ∙ sym also.1
-          | inr short ↦ absurd (omega (arith, long.0, short.0))
-        ]
+        | inl also ↦ long.1 ∙ sym also.1
+        | inr short ↦ absurd (omega (arith, long.0, short.0))
+      ]
       | inr short ↦ elim second [
-          | inl long ↦ absurd (omega (arith, long.0, short.0))
-          | inr also ↦ both_faulty bytes m n short.1 also.1
-        ]
+        | inl long ↦ absurd (omega (arith, long.0, short.0))
+        | inr also ↦ both_faulty bytes m n short.1 also.1
+      ]
     ]
 
 pub not_both : (bytes : List ℕ) (d : Database) (n : ℕ) → SpellsDatabase bytes d → IsRefusedAt bytes n → ⊥

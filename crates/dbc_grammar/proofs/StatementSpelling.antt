@@ -1,5 +1,5 @@
 -- A line spells a statement exactly where that is read from it.
-use Rattle.std.proofs.Common.{◌≡◌, ℕ, zero, suc, ◌+◌, ◌<◌, ◌≤◌, Bool, true, false, cond, eqb, List, [], ◌∷◌, ◌++◌, length, Option, Some, None, refl, sym, ap, subst, ◌∙◌, arith, inl, inr}
+use Rattle.std.proofs.Common.{◌≡◌, ℕ, zero, suc, ◌+◌, ◌<◌, true, false, eqb, List, [], ◌∷◌, ◌++◌, length, Option, Some, None, refl, sym, ap, subst, ◌∙◌, arith, inl, inr}
 use Rattle.std.specs.Prelude.{take_while, replicate, codes}
 use Rattle.std.specs.List.{list_all, prefix_len}
 use Rattle.std.specs.Option.{option_map}
@@ -15,7 +15,7 @@ use Rattle.byte_forms.specs.Pieces.{after_literal}
 use Rattle.byte_forms.proofs.RunLaws.{take_while-append-drop_while, drop_while-before}
 use Rattle.byte_forms.proofs.PieceLaws.{after_literal_takes, after_literal-append}
 use Rattle.dbc_grammar.specs.Statement.{Statement, Blank, Version, Begins, Adds, Heading, Field}
-use Rattle.dbc_grammar.specs.Spelling.{SpellsHeading, SpellsField, SpellsText, IsIndented, Spells}
+use Rattle.dbc_grammar.specs.Spelling.{SpellsHeading, SpellsField, SpellsText, Spells}
 use Rattle.dbc_grammar.specs.Reading.{heading_at, field_at, statement_by, text_statement, statement_of}
 use Rattle.dbc_grammar.proofs.LineSpelling.{heading_takes, heading-is, field_takes, field-is}
 

@@ -1,15 +1,14 @@
 -- Reading a text gives the messages of its statements exactly where its lines are lawful, and else stops at
 -- the first faulty line.
-use Rattle.std.proofs.Common.{◌≡◌, ℕ, zero, suc, ◌+◌, ◌<◌, ◌≤◌, Bool, true, false, cond, List, [], ◌∷◌, ◌++◌, length, Option, Some, None, Result, Ok, Err, refl, sym, ap, subst, ◌∙◌, append_assoc, arith, inl, inr, ◌⊎◌}
-use Rattle.std.proofs.lemmas.Bool.{cases_Bool}
+use Rattle.std.proofs.Common.{◌≡◌, ℕ, suc, ◌+◌, true, cond, List, [], ◌∷◌, ◌++◌, length, Option, Some, None, Ok, Err, refl, sym, ap, subst, ◌∙◌, append_assoc, arith, inl, inr, ◌⊎◌}
 use Rattle.std.proofs.lemmas.Option.{cond_some}
 use Rattle.byte_forms.specs.Pieces.{◌>>=◌}
-use Rattle.std.proofs.lemmas.List.{append-nil, length-append}
+use Rattle.std.proofs.lemmas.List.{append-nil}
 use Rattle.bench_model.specs.declared.database.Message.{Message}
 use Rattle.dbc_grammar.specs.Statement.{Statement, gather}
 use Rattle.dbc_grammar.specs.Spelling.{Spells}
 use Rattle.dbc_grammar.specs.Lawful.{may_follow, AreLawfulAfter, AreLawful, IsFirstFault}
-use Rattle.dbc_grammar.specs.Reading.{statement_of, statement_after, with_statement, outcome}
+use Rattle.dbc_grammar.specs.Reading.{statement_of, statement_after, outcome}
 use Rattle.dbc_grammar.proofs.Gathered.{gather-push}
 use Rattle.dbc_grammar.proofs.Outcomes.{outcome-stops, outcome-goes_on, outcome-nil}
 use Rattle.dbc_grammar.proofs.StatementSpelling.{statement_of_takes, statement_of-is}
@@ -103,8 +102,8 @@ outcome-fault said count (line ∷ lines) n e =
             place = omega (arith, stops);
             lawful = tt;
             faulty = λ s spells may.
-              let none_said : statement_after (gather said) line ≡ Some s = after-is said line s spells (rw append-nil at may) in
-              absurd (cc (sym none ∙ none_said));
+                let none_said : statement_after (gather said) line ≡ Some s = after-is said line s spells (rw append-nil at may) in
+                absurd (cc (sym none ∙ none_said));
           }
     ]
 

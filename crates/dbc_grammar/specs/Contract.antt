@@ -1,6 +1,5 @@
 -- What `read_dbc` answers.
 use Rattle.std.specs.Prelude.{◌≡◌, ◌≤◌, ◌<◌, ◌⊎◌, ℕ, List, length, Result, Ok, Err}
-use Rattle.bench_model.specs.declared.database.Message.{Message}
 use Rattle.bench_model.specs.declared.database.Database.{Database}
 use Rattle.byte_forms.specs.Lines.{all_lines}
 use Rattle.dbc_grammar.specs.declared.fault.DbcFault.{DbcFault}

@@ -1,5 +1,5 @@
 -- What the readers find, as functions on lists. `proofs/` shows that they find what the lines spell.
-use Rattle.std.specs.Prelude.{ℕ, ◌+◌, ◌==◌, ℤ, Bool, true, false, List, [], ◌∷◌, ◌++◌, length, Option, Some, None, Result, Ok, Err, codes, if◌then◌else◌}
+use Rattle.std.specs.Prelude.{ℕ, ◌+◌, ◌==◌, ℤ, List, [], ◌∷◌, ◌++◌, Option, Some, None, Result, Ok, Err, codes, if◌then◌else◌}
 use Rattle.std.specs.Option.{option_map}
 use Rattle.std.specs.Str.{bytes_eq}
 use Rattle.byte_forms.specs.declared.class.Class.TheVariants.{Space, WordByte, DecimalDigit, SignedDigit, StringByte}
@@ -68,8 +68,8 @@ field_at text = do
   scaling ← scaling_at place.2
   unit ← unit_before (codes "\" ") scaling.2
   if is_node unit.1
-    then Some (record { name = name.0; start = place.0; size = place.1; factor = scaling.0; offset = scaling.1; unit = unit.0 })
-    else None
+      then Some (record { name = name.0; start = place.0; size = place.1; factor = scaling.0; offset = scaling.1; unit = unit.0 })
+      else None
 
 -- a statement, by the text behind its first word where that is BO_ or SG_
 abbrev pub statement_by : List ℕ → Option (List ℕ) → Option (List ℕ) → Option Statement

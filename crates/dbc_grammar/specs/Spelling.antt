@@ -1,5 +1,5 @@
 -- How the lines of a DBC file spell what they say: the accepted form, with one space between words.
-use Rattle.std.specs.Prelude.{◌≡◌, ◌≤◌, ◌<◌, ℕ, ℤ, true, List, [], ◌∷◌, ◌++◌, replicate, codes}
+use Rattle.std.specs.Prelude.{◌≡◌, ◌≤◌, ℕ, ℤ, true, List, [], ◌∷◌, ◌++◌, replicate, codes}
 use Rattle.std.specs.List.{concat}
 use Rattle.byte_forms.specs.declared.numerals.Radix.TheVariants.{Decimal}
 use Rattle.byte_forms.specs.Numerals.{is_numeral, number_of, IsSignedNumeral}
@@ -33,7 +33,7 @@ pub record SpellsField (text : List ℕ) (f : Field) : Type 0 where
   pub high : List ℕ
   pub node : List ℕ
   pub pieces : text ≡ concat (codes "SG_ " ∷ f.name ∷ codes " : " ∷ start ∷ codes "|" ∷ size ∷ codes "@1+ ("
-    ∷ factor ∷ codes "," ∷ offset ∷ codes ") [" ∷ low ∷ codes "|" ∷ high ∷ codes "] \"" ∷ f.unit ∷ codes "\" " ∷ node ∷ [])
+      ∷ factor ∷ codes "," ∷ offset ∷ codes ") [" ∷ low ∷ codes "|" ∷ high ∷ codes "] \"" ∷ f.unit ∷ codes "\" " ∷ node ∷ [])
   pub name_is : is_name f.name ≡ true
   pub start_is : IsNumeral 63 start f.start
   pub size_is : IsNumeral 64 size f.size

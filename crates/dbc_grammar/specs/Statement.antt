@@ -1,7 +1,5 @@
 -- What the lines of a DBC file say, and the database that they make.
-use Rattle.std.specs.Prelude.{ℕ, ◌==◌, ◌&&◌, ℤ, Bool, true, false, not, List, [], ◌∷◌, ◌++◌, length, nat_lt, if◌then◌else◌}
-use Rattle.std.specs.List.{list_any}
-use Rattle.std.specs.Str.{bytes_eq}
+use Rattle.std.specs.Prelude.{ℕ, ℤ, false, List, [], ◌∷◌}
 use Rattle.bench_model.specs.declared.database.Order.TheVariants.{Intel}
 use Rattle.bench_model.specs.declared.database.Coding.TheVariants.{Scaled}
 use Rattle.bench_model.specs.declared.database.Signal.{Signal}

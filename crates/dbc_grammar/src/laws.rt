@@ -9,13 +9,11 @@ ghost use Rattle.dbc_grammar.specs.Contract.{SpellsDatabase, IsRefusedAt};
 /// A line says one thing at most.
 pub fn one_statement()
     ensures { (line : List ℕ) (s t : Statement) → Spells line s → Spells line t → s ≡ t }
-{
-}
+{}
 
 /// A file spells one database at most, is refused for one line at most, and not both.
 pub fn one_answer()
     ensures database { (bytes : List ℕ) (d e : Database) → SpellsDatabase bytes d → SpellsDatabase bytes e → d ≡ e }
     ensures line { (bytes : List ℕ) (m n : ℕ) → IsRefusedAt bytes m → IsRefusedAt bytes n → m ≡ n }
     ensures apart { (bytes : List ℕ) (d : Database) (n : ℕ) → SpellsDatabase bytes d → IsRefusedAt bytes n → ⊥ }
-{
-}
+{}

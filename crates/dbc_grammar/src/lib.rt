@@ -8,12 +8,15 @@
 mod fault;
 mod fields;
 mod laws;
+mod model;
 mod names;
 mod read;
-mod model;
 mod reader;
 mod statement;
 
 pub use fault::DbcFault;
 pub use laws::{one_answer, one_statement};
 pub use read::read_dbc;
+
+#[cfg(test)]
+mod tests;

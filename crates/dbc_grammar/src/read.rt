@@ -57,5 +57,7 @@ pub fn read_dbc(alloc: Global, bytes: &[u8]) -> Result<Database, DbcFault>
         return Err(DbcFault::NotBuilt { line: 0 });
     }
     let messages = messages_of(alloc, bytes)?;
-    Ok(Database { messages: List::of(messages) })
+    Ok(Database {
+        messages: List::of(messages),
+    })
 }

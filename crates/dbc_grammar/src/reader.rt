@@ -27,10 +27,18 @@ impl OpenMessage {
     fn close(self) -> Message
         ensures { result ≡ closed_message self }
     {
-        let OpenMessage { name, id, byte_count, signals } = self;
+        let OpenMessage {
+            name,
+            id,
+            byte_count,
+            signals,
+        } = self;
         Message {
             name,
-            key: Key { extended: false, id },
+            key: Key {
+                extended: false,
+                id,
+            },
             length: byte_count,
             signals: List::of(signals),
         }
@@ -138,7 +146,10 @@ impl Reader {
         match last {
             Some(mut open) => {
                 open.signals.push(signal)?;
-                Ok(Reader { closed, last: Some(open) })
+                Ok(Reader {
+                    closed,
+                    last: Some(open),
+                })
             }
             None => Ok(Reader { closed, last: None }),
         }

@@ -49,7 +49,11 @@ fn heading_at(text: &[u8]) -> Option<Heading<'_>>
     let (name, rest) = name_before(b": ", rest)?;
     let (byte_count, node) = number_before(8, b" ", rest)?;
     if is_node(node) {
-        Some(Heading { id, name, byte_count })
+        Some(Heading {
+            id,
+            name,
+            byte_count,
+        })
     } else {
         None
     }
@@ -91,7 +95,14 @@ fn field_at(text: &[u8]) -> Option<Field<'_>>
     let (factor, offset, rest) = scaling_at(rest)?;
     let (unit, node) = unit_before(b"\" ", rest)?;
     if is_node(node) {
-        Some(Field { name, start, size, factor, offset, unit })
+        Some(Field {
+            name,
+            start,
+            size,
+            factor,
+            offset,
+            unit,
+        })
     } else {
         None
     }

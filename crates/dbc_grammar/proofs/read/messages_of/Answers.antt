@@ -1,4 +1,4 @@
-use Rattle.std.proofs.Common.{◌≡◌, ◌+◌, ◌∷◌, ◌∙◌, sym, refl, arith}
+use Rattle.std.proofs.Common.{◌∙◌, sym, refl, arith}
 use Rattle.byte_forms.specs.Lines.{all_lines}
 use Rattle.byte_forms.proofs.LineLaws.{all_lines-nil}
 use Rattle.dbc_grammar.specs.Reader.{all_messages}

@@ -7,7 +7,7 @@ use Rattle.dbc_grammar.proofs.read.messages_of.Given as goal
 abbrev pub invariant-loop-line : goal.invariant-loop-line
 invariant-loop-line l = record {
   goes_on : outcome (all_messages l.reader) l.count (all_lines l.rest) ≡ outcome [] 0 (all_lines l.bytes);
-  counted : l.count + length l.rest ≤ length l.bytes
+  counted : l.count + length l.rest ≤ length l.bytes;
 }
 
 abbrev pub decreases-loop-line : goal.decreases-loop-line

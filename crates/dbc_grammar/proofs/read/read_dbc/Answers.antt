@@ -1,6 +1,5 @@
-use Rattle.std.proofs.Common.{◌≡◌, ◌≤◌, ◌∙◌, sym, ap, subst, Ok, List, length, arith}
+use Rattle.std.proofs.Common.{◌≤◌, length, arith}
 use Rattle.std.proofs.lemmas.Result.{err_from_is_err_and}
-use Rattle.byte_forms.specs.Lines.{all_lines}
 use Rattle.dbc_grammar.specs.Contract.{byte_limit}
 use Rattle.dbc_grammar.proofs.ReadLaws.{SpellsDatabase-read, SpellsDatabase-is, read_not_refused, read-fits, read-whole, fault_not_spelled, HasFault-from, fault-line}
 use Rattle.dbc_grammar.proofs.read.read_dbc.Goals as goal

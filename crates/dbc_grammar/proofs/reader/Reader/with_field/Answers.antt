@@ -1,11 +1,8 @@
-use Rattle.std.proofs.Common.{◌≡◌, ◌++◌, ◌∷◌, [], ◌∙◌, sym, ap, refl, Option, List}
+use Rattle.std.proofs.Common.{◌≡◌, ◌++◌, ◌∷◌, [], sym, refl}
 use Rattle.bench_model.specs.declared.database.Signal.{Signal}
-use Rattle.bench_model.specs.declared.database.Message.{Message}
-use Rattle.dbc_grammar.specs.declared.reader.OpenMessage.{OpenMessage}
 use Rattle.dbc_grammar.specs.Statement.{signal_of}
 use Rattle.dbc_grammar.specs.Views.{field}
-use Rattle.dbc_grammar.specs.Reading.{onto_last}
-use Rattle.dbc_grammar.specs.Reader.{closed_message, open_messages}
+use Rattle.dbc_grammar.specs.Reader.{closed_message}
 use Rattle.dbc_grammar.proofs.LastMessage.{onto_last-last, onto_last-nil}
 use Rattle.dbc_grammar.proofs.reader.Reader.with_field.Goals as goal
 
