@@ -1,5 +1,7 @@
 //! Files of the system, by their paths. What they hold is not told.
 ghost use Rattle.std.specs.Prelude.{◌≡◌, false, None, is_some, refl};
+ghost use Rattle.std.specs.Io.{ReadsAtMost};
+ghost use Rattle.std.specs.Io.KnownBytes.{ReadConsumes};
 ghost use Rattle.port_io.specs.Causes.{HasCause};
 ghost use Rattle.port_io.specs.OtherSide.{no_other_side};
 
@@ -8,6 +10,19 @@ use crate::{Failed, Library, Source};
 use std::fs;
 use std::fs::File;
 use std::io::Read;
+
+/// Reads from a reader of the system, and counts where that fails.
+fn read_some<R: Read>(reader: &mut R, buf: &mut [u8], faults: &mut u64) -> Result<usize, Failed>
+    ensures bound { ReadsAtMost result buf.new }
+    ensures bytes { ReadConsumes (R.remaining reader.old) (R.remaining reader.new) result buf.new }
+    ensures cause { HasCause faults.old faults.new result }
+{
+    let Ok(count) = reader.read(buf) else {
+        raise(faults);
+        return Err(Failed);
+    };
+    Ok(count)
+}
 
 /// An open file, read from its start.
 #[derive(Drop)]
@@ -31,10 +46,7 @@ impl Source for FileSource {
     ghost told_alike = { λ _. refl };
 
     fn read(&mut self, buf: &mut [u8]) -> Result<usize, Failed> {
-        let Ok(count) = self.file.read(buf) else {
-            raise(&mut self.faults);
-            return Err(Failed);
-        };
+        let count = read_some(&mut self.file, buf, &mut self.faults)?;
         self.ended = self.ended || count == 0;
         Ok(count)
     }
@@ -103,11 +115,7 @@ impl Library for FileLibrary {
         let Some(file) = &mut self.begun else {
             unreachable!()
         };
-        let Ok(count) = file.read(buf) else {
-            raise(&mut self.more_faults);
-            return Err(Failed);
-        };
-        Ok(count)
+        read_some(file, buf, &mut self.more_faults)
     }
 
     fn log(&mut self, name: &str) -> Result<FileSource, Failed> {

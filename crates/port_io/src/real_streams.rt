@@ -1,5 +1,6 @@
 //! The standard output and error of the process. What was written is not told.
 ghost use Rattle.std.specs.Prelude.{◌≡◌, ◌≤◌, length, None, IfOk};
+ghost use Rattle.std.specs.Io.KnownBytes.{WriteAppends};
 ghost use Rattle.port_io.specs.Causes.{HasCause};
 ghost use Rattle.port_io.specs.OtherSide.{no_other_side};
 ghost use Rattle.port_io.specs.Sink.{TakesSome};
@@ -11,6 +12,7 @@ use std::io::{Stderr, Stdout, Write};
 /// Writes a piece to a stream of the system. Taking nothing of it counts as a fault.
 fn write_some<W: Write>(stream: &mut W, piece: &[u8], faults: &mut u64) -> Result<usize, Failed>
     ensures count { TakesSome result piece.now }
+    ensures bytes { WriteAppends (W.contents stream.old) (W.contents stream.new) result piece.now }
     ensures cause { HasCause faults.old faults.new result }
 {
     match stream.write(piece) {
