@@ -8,3 +8,6 @@ pub mod WordLaws
 pub mod WholeLaws
 pub mod WritingLaws
 pub mod Sequences
+pub mod NameLaws
+pub mod EndLaws
+pub mod ToolLaws

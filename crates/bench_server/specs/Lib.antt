@@ -14,3 +14,6 @@ pub mod Tool
 pub mod Writing
 pub mod Records
 pub mod WholeBench
+pub mod Ends
+pub mod BusEnds
+pub mod ToolEnds

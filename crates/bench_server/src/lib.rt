@@ -1,12 +1,24 @@
-//! The top calls.
+//! The server's top calls, of which this version has one: `run_tool`, which does what the program does for
+//! the words of its command line.
+//!
+//! It stands on `port_io` for the outside, on `byte_forms` and `dbc_grammar` for the files and on
+//! `bench_model` for the meaning of frames; the program `sigserve` hands it the real files and streams.
+//! Reading the bench file and the log, and the text of the items, are private parts of it.
+//!
+//! Main theorem: on success `run_tool` has appended to its output exactly the tool's text, a function of the
+//! bytes of the bench file, the database and the log alone, and every other status has its cause.
 #![tactic(auto)]
 
 mod bench_file;
+mod bus;
 mod decode;
+mod files;
 mod item_text;
 mod log_file;
 mod report;
 mod status;
+mod tool;
 mod words;
 
 pub use status::Status;
+pub use tool::{Ran, run_tool};

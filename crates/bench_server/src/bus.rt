@@ -1,0 +1,135 @@
+//! One bus, decoded from its files to its text.
+
+ghost use Rattle.std.specs.Prelude.{◌≡◌, ◌≤◌, ◌<◌, [], ◌∷◌, length, vec_len, vec_capacity, true, IfOk, IfErr, IfSome, All, List, ℕ};
+ghost use Rattle.port_io.specs.Library.{named, strays_after};
+ghost use Rattle.bench_model.specs.Limits.{IsLawfulDatabase};
+ghost use Rattle.dbc_grammar.specs.Whole.{HasWholeScalings};
+ghost use Rattle.bench_server.specs.BenchFile.{is_file_name, IsLawfulBus};
+ghost use Rattle.bench_server.specs.BenchView.{files_of};
+ghost use Rattle.bench_server.specs.WholeBench.{IsWholeBench};
+ghost use Rattle.bench_server.specs.Tool.{bench_of};
+ghost use Rattle.bench_server.specs.BusEnds.{ReadsDatabase, FailsAsDatabase, ReadsLog, FailsAsOpened, AreLogsOf, status_of, stands, HasBusFiles};
+ghost use Rattle.bench_server.specs.Ends.{HasFailed, EndsBus};
+
+use crate::Status;
+use crate::bench_file::BusLine;
+use crate::decode::write_bus;
+use crate::files::{file_name, read_file, read_frames};
+use crate::log_file::Frame;
+use bench_model::{Bench, Bus, Database, Kind, List, Text};
+use dbc_grammar::{DbcFault, read_dbc};
+use port_io::{Library, Sink};
+use std::alloc::{AllocError, Global};
+
+/// The database of the file of this name.
+fn read_database<B: Library>(
+    alloc: Global,
+    library: &mut B,
+    name: &[u8],
+) -> Result<Database, Status>
+    requires { is_file_name name.now ≡ true }
+    ensures database { IfOk result (λ database. IfSome (B.files library.old) (λ files. ReadsDatabase files name.now database)) }
+    ensures lawful { IfOk result IsLawfulDatabase }
+    ensures whole { IfOk result HasWholeScalings }
+    ensures fault { IfErr result (FailsAsDatabase (B.files library.old) name.now
+        (record { before = B.open_faults library.old; now = B.open_faults library.new })
+        (record { before = B.more_faults library.old; now = B.more_faults library.new })) }
+
+    ensures opens { B.open_faults library.old ≤ B.open_faults library.new }
+    ensures reads { B.more_faults library.old ≤ B.more_faults library.new }
+    ensures files { B.files library.new ≡ B.files library.old }
+    ensures strays { B.strays library.new ≡ strays_after (B.files library.old) name.now (B.strays library.old) }
+{
+    let bytes = match read_file(alloc, library, file_name(name), 1) {
+        Ok(bytes) => bytes,
+        Err(status) => return Err(status),
+    };
+    match read_dbc(alloc, &bytes) {
+        Ok(database) => Ok(database),
+        Err(DbcFault::NotBuilt { line }) => Err(Status::NotBuilt { file: 1, line }),
+        Err(DbcFault::Memory) => Err(Status::Memory),
+    }
+}
+
+/// A bench of one CAN bus with this database.
+fn one_bus(alloc: Global, name: &[u8], database: Database) -> Result<Bench, AllocError>
+    requires lawful { IsLawfulDatabase database }
+    requires whole { HasWholeScalings database }
+    ensures bench { IfOk result (λ bench. bench ≡ bench_of name.now database) }
+    ensures whole { IfOk result IsWholeBench }
+{
+    let mut buses = Vec::new(alloc);
+    buses.push(Bus {
+        name: Text::of(alloc, name)?,
+        kind: Kind::Can,
+        database,
+    })?;
+    Ok(Bench {
+        buses: List::of(buses),
+    })
+}
+
+/// Opens the bus's log, reads its frames, and keeps the log.
+fn open_log<B: Library>(
+    alloc: Global,
+    library: &mut B,
+    name: &[u8],
+    logs: &mut Vec<B::Log>,
+) -> Result<Vec<Frame>, Status>
+    requires name { is_file_name name.now ≡ true }
+    requires none { logs.old.items ≡ [] }
+    requires empty { vec_len logs.old ≡ 0 }
+    requires room { 0 < vec_capacity logs.old }
+    ensures frames { IfOk result (λ frames. IfSome (B.files library.old) (λ files. ReadsLog files name.now frames.items)) }
+    ensures fault { IfErr result (FailsAsOpened (B.files library.old) name.now
+        (record { before = B.open_faults library.old; now = B.open_faults library.new }) (HasFailed B.Log.read_faults logs.new.items)) }
+    ensures logs { AreLogsOf (B.files library.old) name.now B.Log.left B.Log.taken logs.new.items }
+
+    ensures opens { B.open_faults library.old ≤ B.open_faults library.new }
+    ensures reads { B.more_faults library.new ≡ B.more_faults library.old }
+    ensures files { B.files library.new ≡ B.files library.old }
+    ensures strays { B.strays library.new ≡ strays_after (B.files library.old) name.now (B.strays library.old) }
+{
+    let Ok(mut log) = library.log(file_name(name)) else {
+        return Err(Status::OpenFault);
+    };
+    let frames = read_frames(alloc, &mut log);
+    logs.push(log).unwrap();
+    frames
+}
+
+/// Reads the bus's files and writes its text.
+pub(crate) fn decode<B: Library, K: Sink>(
+    alloc: Global,
+    bus: &BusLine<'_>,
+    library: &mut B,
+    out: &mut K,
+    logs: &mut Vec<B::Log>,
+) -> Result<(), Status>
+    requires lawful { IsLawfulBus (files_of bus.now) }
+    requires none { logs.old.items ≡ [] }
+    requires empty { vec_len logs.old ≡ 0 }
+    requires room { 0 < vec_capacity logs.old }
+    ensures ends { EndsBus (stands (B.files library.old) (B.open_faults library.old) (B.open_faults library.new) (B.more_faults library.old) (B.more_faults library.new)
+        (K.write_faults out.old) (K.write_faults out.new) (K.written out.old) (K.written out.new)) (files_of bus.now) (HasFailed B.Log.read_faults logs.new.items) (status_of result) }
+    ensures logs { AreLogsOf (B.files library.old) bus.now.log.now B.Log.left B.Log.taken logs.new.items }
+
+    ensures opens { B.open_faults library.old ≤ B.open_faults library.new }
+    ensures reads { B.more_faults library.old ≤ B.more_faults library.new }
+    ensures writes { K.write_faults out.old ≤ K.write_faults out.new }
+    ensures files { B.files library.new ≡ B.files library.old }
+    ensures strays { HasBusFiles (B.files library.old) (files_of bus.now) → B.strays library.new ≡ B.strays library.old }
+{
+    let database = match read_database(alloc, library, bus.database) {
+        Ok(database) => database,
+        Err(status) => return Err(status),
+    };
+    let Ok(bench) = one_bus(alloc, bus.name, database) else {
+        return Err(Status::Memory);
+    };
+    let frames = match open_log(alloc, library, bus.log, logs) {
+        Ok(frames) => frames,
+        Err(status) => return Err(status),
+    };
+    write_bus(alloc, &bench, bus.name, &frames, out)
+}
