@@ -1,0 +1,8 @@
+use Rattle.sig_text.proofs.ReadingLemmas.{every_list, every_fault}
+use Rattle.sig_text.proofs.lexer.tokens.Goals as goal
+
+pub returns-clause-every_list : goal.returns-clause-every_list
+returns-clause-every_list c = every_list c.args.bytes.now c.args.comments c.read_tokens.result c.read_tokens.ensures.ok c.read_tokens.ensures.fault
+
+pub returns-clause-every_fault : goal.returns-clause-every_fault
+returns-clause-every_fault c = every_fault c.args.bytes.now c.args.comments c.read_tokens.result c.read_tokens.ensures.ok c.read_tokens.ensures.fault
