@@ -1,13 +1,13 @@
 -- What a blank begins with, and that at most one begins at a place.
-use Rattle.std.proofs.Common.{◌≡◌, ℕ, ◌+◌, ◌-◌, ◌<◌, ◌≤◌, ◌==◌, Bool, true, false, List, [], ◌∷◌, length, get_or, take, drop, sym, refl, ap, ◌∙◌, subst, ◌⊎◌, inl, inr, arith, length-take, length-take-le, length-drop, get_or-take, get_or-drop, add-zero}
-use Rattle.std.specs.Prelude.{IsTrue, All, slice_range}
-use Rattle.std.proofs.lemmas.Bool.{cases_lt, both_ways, eqb-true, eq-eqb}
+use Rattle.std.proofs.Common.{◌≡◌, ℕ, ◌+◌, ◌-◌, ◌<◌, ◌≤◌, ◌==◌, Bool, true, List, length, get_or, take, drop, sym, refl, ap, ◌∙◌, subst, inl, inr, arith, length-take, length-take-le, length-drop, get_or-take, get_or-drop, add-zero}
+use Rattle.std.specs.Prelude.{slice_range}
+use Rattle.std.proofs.lemmas.Bool.{cases_lt, eqb-true, eq-eqb}
 use Rattle.std.proofs.lemmas.Bool.Decides.{nat_tests}
 use Rattle.std.proofs.lemmas.List.{get_or_past}
 use Rattle.sig_text.specs.Bytes.{is_space}
-use Rattle.sig_text.specs.Blank.{IsSpace, IsByteOrderMark, IsLineComment, IsBlockComment, BlankSpelling, space, byte_order_mark, line_comment, block_comment, IsBlank}
+use Rattle.sig_text.specs.Blank.{IsSpace, IsByteOrderMark, space, byte_order_mark, line_comment, block_comment, IsBlank}
 use Rattle.sig_text.specs.Comments.{BeginsLineComment, BeginsBlockComment, OpensLineComment, OpensBlockComment, BeginsSpace}
-use Rattle.sig_text.specs.Tokens.{IsOpenComment, BeginsNoBlank}
+use Rattle.sig_text.specs.Tokens.{BeginsNoBlank}
 use Rattle.sig_text.proofs.StringLemmas.{comment_longest}
 
 -- a byte of a front is that of the text, if it is not 0

@@ -1,12 +1,12 @@
 -- The content of a string, and that it is UTF-8.
-use Rattle.std.proofs.Common.{◌≡◌, ℕ, ◌+◌, ◌-◌, ◌<◌, ◌≤◌, ◌==◌, ◌&&◌, Bool, true, false, cond, List, [], ◌∷◌, ◌++◌, length, get_or, take, drop, sym, refl, ap, ◌∙◌, subst, ◌⊎◌, inl, inr, arith, zero, suc, append_assoc, length-take, length-drop, get_or-take, get_or-drop, IsUtf8}
-use Rattle.std.specs.Prelude.{slice_range, encode_utf8}
+use Rattle.std.proofs.Common.{◌≡◌, ℕ, ◌+◌, ◌-◌, ◌<◌, ◌≤◌, ◌==◌, ◌&&◌, Bool, true, false, List, [], ◌∷◌, ◌++◌, length, get_or, take, drop, sym, refl, ap, ◌∙◌, subst, ◌⊎◌, inl, inr, arith, suc, length-take, length-drop, get_or-take, get_or-drop, IsUtf8}
+use Rattle.std.specs.Prelude.{slice_range}
 use Rattle.std.specs.List.{flat_map}
 use Rattle.std.proofs.Math.Utf8.{encode, encodes, scalars, low_scalar}
-use Rattle.std.proofs.lemmas.Bool.{cases_eq, cases_lt, cases_Bool, and_parts, eqb-true, ne_eqb, cond-true, cond-false}
-use Rattle.std.proofs.lemmas.List.{append-nil, drop_more, get_or_past}
+use Rattle.std.proofs.lemmas.Bool.{cases_eq, cases_lt, cases_Bool, and_parts, ne_eqb}
+use Rattle.std.proofs.lemmas.List.{append-nil, get_or_past}
 use Rattle.std.proofs.lemmas.Str.{IsUtf8-append, IsUtf8-nil, IsUtf8-encode, IsUtf8-between, IsCharBoundary-before_ascii, IsCharBoundary-after_ascii, encode_ascii, inside_one}
-use Rattle.sig_text.specs.Content.{IsStringOf, is_escape, unescaped, between_quotes, encoded, content_of}
+use Rattle.sig_text.specs.Content.{IsStringOf, unescaped, between_quotes, encoded, content_of}
 use Rattle.sig_text.specs.Spelling.{IsString, IsSpelling}
 use Rattle.sig_text.specs.declared.token.Token.{Token}
 use Rattle.sig_text.proofs.StringLemmas.{string_end}

@@ -1,5 +1,5 @@
 -- Longest fronts of texts in the languages that numbers are made of.
-use Rattle.std.proofs.Common.{◌≡◌, ℕ, ◌+◌, ◌-◌, ◌<◌, ◌≤◌, Bool, true, false, List, [], ◌∷◌, ◌++◌, length, get_or, take, drop, sym, refl, ap, ◌∙◌, subst, ◌⊎◌, inl, inr, arith, length-append, length-drop, length-take-le, get_or-take, get_or-drop, add-zero, zero-add, eq-eqb, suc, zero}
+use Rattle.std.proofs.Common.{◌≡◌, ℕ, ◌+◌, ◌-◌, ◌<◌, ◌≤◌, Bool, true, false, List, [], ◌∷◌, ◌++◌, length, get_or, take, drop, sym, refl, ap, ◌∙◌, subst, inl, inr, arith, length-append, length-drop, length-take-le, get_or-take, get_or-drop, add-zero, zero-add, eq-eqb, suc, zero}
 use Rattle.std.specs.Prelude.{IsTrue, All}
 use Rattle.std.specs.List.{prefix_len}
 use Rattle.std.specs.Char.{is_ascii_digit}
@@ -9,16 +9,15 @@ use Rattle.std.proofs.Math.Nat.{suc-add}
 use Rattle.std.proofs.lemmas.List.Elements.{All-from_get_or}
 use Rattle.std.proofs.lemmas.List.Sums.{prefix_len-le-length, prefix_len_passes, prefix_len_stops}
 use Rattle.sig_text.specs.Fronts.{IsLongestFront}
-use Rattle.sig_text.specs.Bytes.{is_point}
-use Rattle.sig_text.specs.Spelling.{AreDigits, AreDecimalDigits, IsAfter, IsWithOption, IsFraction, IsBareFraction, IsMantissa}
+use Rattle.sig_text.specs.Spelling.{AreDigits, IsAfter, IsWithOption, IsFraction}
 
 -- each byte of the run passes
 pub All-run : (p : ℕ → Bool) (text : List ℕ) → All (λ b. IsTrue (p b)) (take (prefix_len p text) text)
 All-run p text =
     let fits = prefix_len-le-length p text in
     All-from_get_or (λ b. IsTrue (p b)) _ 0 (λ k inside.
-        let short : k < prefix_len p text = omega (arith, length-take-le (prefix_len p text) text fits) in
-        ap p (get_or-take (prefix_len p text) text k 0 short) ∙ prefix_len_passes p text k 0 short)
+    let short : k < prefix_len p text = omega (arith, length-take-le (prefix_len p text) text fits) in
+    ap p (get_or-take (prefix_len p text) text k 0 short) ∙ prefix_len_passes p text k 0 short)
 
 -- a front whose bytes all pass is no longer than the run
 pub run_longest : (p : ℕ → Bool) (text : List ℕ) (m : ℕ) → m ≤ length text → All (λ b. IsTrue (p b)) (take m text) → m ≤ prefix_len p text
@@ -130,7 +129,7 @@ module _ (First Second : List ℕ → Type 0) (c : ℕ → Bool) (of_first : (s 
       elim (cases_lt j n) [
         | inl early ↦
             let first_byte : get_or parts.rest 0 0 ≡ get_or text j 0 =
-                ap (λ s. get_or s 0 0) places.2 ∙ get_or-take (m - j) (drop j text) 0 0 (omega arith) ∙ get_or-drop j text 0 0 ∙ ap (λ i. get_or text i 0) (add-zero j) in
+            ap (λ s. get_or s 0 0) places.2 ∙ get_or-take (m - j) (drop j text) 0 0 (omega arith) ∙ get_or-drop j text 0 0 ∙ ap (λ i. get_or text i 0) (add-zero j) in
             let inside_first : j < length (take n text) = omega (arith, length-take-le n text front.within) in
             absurd (both_ways _ begins.1 (ap c (first_byte ∙ sym (get_or-take n text j 0 early)) ∙ of_first _ (front.spelled some) j 0 inside_first))
         | inr late ↦

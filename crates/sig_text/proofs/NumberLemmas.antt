@@ -1,5 +1,5 @@
 -- The longest front of a text that is a number, from the runs of digits in it.
-use Rattle.std.proofs.Common.{◌≡◌, ℕ, ◌+◌, ◌-◌, ◌<◌, ◌≤◌, Bool, true, false, ◌||◌, List, [], ◌∷◌, ◌++◌, length, get_or, take, drop, sym, refl, ap, ◌∙◌, subst, ◌⊎◌, inl, inr, arith, length-append, length-drop, length-take-le, get_or-drop, zero, suc}
+use Rattle.std.proofs.Common.{◌≡◌, ℕ, ◌+◌, ◌<◌, ◌≤◌, Bool, true, false, ◌||◌, List, [], ◌∷◌, ◌++◌, length, get_or, take, drop, sym, refl, ap, ◌∙◌, subst, ◌⊎◌, inl, inr, arith, length-append, length-drop, length-take-le, get_or-drop, zero, suc}
 use Rattle.std.specs.Prelude.{IsTrue, All}
 use Rattle.std.specs.List.{prefix_len}
 use Rattle.std.specs.Char.{is_ascii_digit, is_ascii_hexdigit}
@@ -8,7 +8,7 @@ use Rattle.std.proofs.lemmas.List.{drop-drop}
 use Rattle.std.proofs.lemmas.List.Elements.{All-weaker, All-append, All-cons}
 use Rattle.std.proofs.lemmas.List.Sums.{prefix_len_passes}
 use Rattle.sig_text.specs.Fronts.{IsLongestFront}
-use Rattle.sig_text.specs.Bytes.{is_point, is_nought, is_hexadecimal_mark, is_exponent_mark, is_plus_or_minus}
+use Rattle.sig_text.specs.Bytes.{is_point, is_nought, is_hexadecimal_mark, is_plus_or_minus}
 use Rattle.sig_text.specs.Spelling.{AreDigits, AreDecimalDigits, IsAfter, IsWithOption, IsHexadecimal, IsFraction, IsBareFraction, IsPower, IsExponent, IsMantissa, IsDecimal}
 use Rattle.sig_text.proofs.FrontLemmas.{digits_front, after_front, after_other, option_front, option_nothing}
 
@@ -86,22 +86,22 @@ whole_nothing text none =
 pub mantissa_nothing : (text : List ℕ) (f : ℕ) → prefix_len is_ascii_digit text ≡ 0 → IsLongestFront IsFraction text f → f < 2 → IsLongestFront IsMantissa text 0
 mantissa_nothing text f none fraction short =
     let bare : IsLongestFront IsBareFraction text 0 = record {
-          within = omega arith;
-          spelled = λ some. absurd (omega arith);
-          longest = λ m inside spelled.
-              let parts = fraction_from_bare (take m text) spelled in
-              absurd (omega (arith, parts.1, fraction.longest m inside parts.0, length-take-le m text inside));
-        } in
+      within = omega arith;
+      spelled = λ some. absurd (omega arith);
+      longest = λ m inside spelled.
+          let parts = fraction_from_bare (take m text) spelled in
+          absurd (omega (arith, parts.1, fraction.longest m inside parts.0, length-take-le m text inside));
+    } in
     either_front _ _ text 0 0 (whole_nothing text none) bare (omega arith)
 
 -- a point and digits
 pub mantissa_bare : (text : List ℕ) (f : ℕ) → prefix_len is_ascii_digit text ≡ 0 → IsLongestFront IsFraction text f → 2 ≤ f → IsLongestFront IsMantissa text f
 mantissa_bare text f none fraction long =
     let bare : IsLongestFront IsBareFraction text f = record {
-          within = fraction.within;
-          spelled = λ some. bare_from_fraction (take f text) (fraction.spelled some) (omega (arith, length-take-le f text fraction.within));
-          longest = λ m inside spelled. fraction.longest m inside (fraction_from_bare (take m text) spelled).0;
-        } in
+      within = fraction.within;
+      spelled = λ some. bare_from_fraction (take f text) (fraction.spelled some) (omega (arith, length-take-le f text fraction.within));
+      longest = λ m inside spelled. fraction.longest m inside (fraction_from_bare (take m text) spelled).0;
+    } in
     or_front _ _ text 0 f (whole_nothing text none) bare (omega arith)
 
 bare_other : (text : List ℕ) (m : ℕ) → is_ascii_digit (get_or text 0 0) ≡ true → IsBareFraction (take m text) → ⊥
@@ -115,10 +115,10 @@ mantissa_whole text w f run some fraction =
     let digits = subst (IsLongestFront AreDecimalDigits text) (sym run) (digits_front is_ascii_digit text) in
     let first : is_ascii_digit (get_or text 0 0) ≡ true = prefix_len_passes is_ascii_digit text 0 0 (omega arith) in
     let bare : IsLongestFront IsBareFraction text 0 = record {
-          within = omega arith;
-          spelled = λ none. absurd (omega arith);
-          longest = λ m inside spelled. absurd (bare_other text m first spelled);
-        } in
+      within = omega arith;
+      spelled = λ none. absurd (omega arith);
+      longest = λ m inside spelled. absurd (bare_other text m first spelled);
+    } in
     either_front _ _ text (w + f) 0 (option_front AreDecimalDigits IsFraction is_ascii_digit (λ s all. all.each) fraction_begins text w f some digits fraction) bare (omega arith)
 
 -- what a mantissa is made of, and what a number begins with

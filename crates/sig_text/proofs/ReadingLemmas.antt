@@ -1,23 +1,24 @@
 -- A text is read in one way: at each place at most one blank, token or fault begins.
-use Rattle.std.proofs.Common.{◌≡◌, ℕ, ◌+◌, ◌-◌, ◌<◌, ◌≤◌, ◌==◌, Bool, true, false, List, [], ◌∷◌, ◌++◌, length, get_or, take, drop, sym, refl, ap, ◌∙◌, subst, ◌⊎◌, inl, inr, arith, length-append, length-take-le, get_or-drop}
-use Rattle.std.specs.Prelude.{IsTrue, slice_range, Result, Ok, Err, Vec, IfOk, IfErr, IsOkAnd, IsErrOf}
+use Rattle.std.proofs.Common.{◌≡◌, ℕ, ◌+◌, ◌-◌, ◌<◌, ◌≤◌, Bool, true, false, List, [], ◌∷◌, ◌++◌, length, get_or, drop, sym, refl, ap, ◌∙◌, subst, ◌⊎◌, inl, inr, arith, length-append, get_or-drop}
+use Rattle.std.specs.Prelude.{All, slice_range, Result, Ok, Err, Vec, IfOk, IfErr, IsOkAnd, IsErrOf}
 use Rattle.std.proofs.Common.{Global}
 use Rattle.std.proofs.lemmas.Bool.{cases_order, both_ways, eqb-true, cases_lt}
 use Rattle.std.proofs.lemmas.Bool.Decides.{nat_tests}
 use Rattle.std.proofs.lemmas.List.{nil_from_length, get_or_append_left, get_or_past, append-nil}
+use Rattle.std.proofs.lemmas.List.Elements.{All-nil, All-cons}
 use Rattle.std.specs.Char.{is_ascii_digit}
 use Rattle.sig_text.specs.Bytes.{is_word_start, is_sign}
 use Rattle.sig_text.specs.Spelling.{IsNumber, IsBareFraction, IsMantissa, IsSpelling}
 use Rattle.sig_text.specs.Blank.{IsBlank}
-use Rattle.sig_text.specs.Tokens.{IsToken, AreBlanks, IsGap, AreTokens, IsTokens, IsReached, IsOpenString, IsOpenComment, BeginsFault, place_of, IsLexFault, IsFaultOrMemory}
+use Rattle.sig_text.specs.Tokens.{IsToken, AreBlanks, AreTokens, IsTokens, IsOpenString, IsOpenComment, BeginsFault, place_of, IsLexFault, IsFaultOrMemory}
 use Rattle.sig_text.specs.declared.token.TokenKind.{TokenKind}
 use Rattle.sig_text.specs.declared.token.TokenKind.TheVariants.{Word, Number, Str, Sign}
 use Rattle.sig_text.specs.declared.token.Token.{Token}
 use Rattle.sig_text.specs.declared.fault.LexFault.{LexFault}
 use Rattle.sig_text.specs.declared.fault.LexFault.TheVariants.{OpenString, OpenComment, Byte, Memory}
 use Rattle.sig_text.proofs.NumberLemmas.{is_mantissa_byte, no_mantissa, no_digits, quote_is_no_number}
-use Rattle.sig_text.proofs.ScanLemmas.{first_class, spelling_first, token_first, sign_first, word_is_no_number, word_is_no_sign, word_is_no_quote}
-use Rattle.sig_text.proofs.BlankLemmas.{BlankForm, white, mark, line, block, blank_form, blank_unique, no_blank_from_byte, first_of_rest}
+use Rattle.sig_text.proofs.ScanLemmas.{first_class, spelling_first, token_first, word_is_no_number, word_is_no_sign, word_is_no_quote}
+use Rattle.sig_text.proofs.BlankLemmas.{white, mark, line, block, blank_form, blank_unique, no_blank_from_byte, first_of_rest}
 
 -- one byte that is a number is a digit
 digit_mantissa : (b : ℕ) (s : List ℕ) → IsMantissa s → s ≡ b ∷ [] → is_ascii_digit b ≡ true
@@ -288,6 +289,16 @@ push_blank text comments from (token ∷ tokens) to end are blank = (are.0, are.
 pub push_token : (text : List ℕ) (comments : Bool) (from : ℕ) (tokens : List Token) (to : ℕ) (token : Token) → AreTokens text comments from tokens to → token.at ≡ to → IsToken text token → AreTokens text comments from (tokens ++ token ∷ []) token.end
 push_token text comments from [] to token are at is = ((are.0, subst (AreBlanks text comments from are.0) (sym at) are.1), is, ([], refl))
 push_token text comments from (first ∷ tokens) to token are at is = (are.0, are.1, push_token text comments first.end tokens to token are.2 at is)
+
+-- each of the tokens stands in the text
+pub All-IsToken : (text : List ℕ) (comments : Bool) (from : ℕ) (tokens : List Token) (to : ℕ) → AreTokens text comments from tokens to → All (IsToken text) tokens
+All-IsToken text comments from [] to are = All-nil (IsToken text)
+All-IsToken text comments from (token ∷ tokens) to are = All-cons (IsToken text) token tokens are.1 (All-IsToken text comments token.end tokens to are.2)
+
+-- the tokens that were answered stand in the text
+pub each_token : (text : List ℕ) (comments : Bool) (result : Result (Vec Token Global) LexFault) → IfOk result (λ v. IsTokens text comments v.items) → IfOk result (λ v. All (IsToken text) v.items)
+each_token text comments (Ok v) ok = All-IsToken text comments 0 v.items (length text) ok
+each_token text comments (Err e) ok = tt
 
 -- the tokens of the text are answered, unless memory runs out
 pub every_list : (text : List ℕ) (comments : Bool) (result : Result (Vec Token Global) LexFault) → IfOk result (λ v. IsTokens text comments v.items) → IfErr result (IsFaultOrMemory text comments) → (list : List Token) → IsTokens text comments list → IsOkAnd result (λ v. v.items ≡ list) ⊎ IsErrOf result Memory

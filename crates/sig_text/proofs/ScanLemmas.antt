@@ -1,5 +1,5 @@
 -- The kinds of token that a first byte allows.
-use Rattle.std.proofs.Common.{◌≡◌, ℕ, ◌+◌, ◌-◌, ◌<◌, ◌≤◌, Bool, true, false, ◌==◌, List, [], ◌∷◌, ◌++◌, length, get_or, take, sym, refl, ap, ◌∙◌, subst, ◌⊎◌, inl, inr, arith, zero, suc, length-take-le, get_or-take}
+use Rattle.std.proofs.Common.{◌≡◌, ℕ, ◌<◌, ◌≤◌, Bool, true, false, ◌==◌, List, [], ◌∷◌, length, get_or, take, sym, refl, ap, ◌∙◌, subst, ◌⊎◌, inl, inr, arith, zero, suc, length-take-le, get_or-take}
 use Rattle.std.proofs.lemmas.List.{get_or_append_left, nil_from_length}
 use Rattle.std.specs.Prelude.{IsTrue, All}
 use Rattle.std.specs.List.{prefix_len}
@@ -49,10 +49,10 @@ hexadecimal_first (b ∷ rest) hexadecimal = rw (eqb-true b 48 hexadecimal.0) re
 decimal_first : (s : List ℕ) → IsDecimal s → is_mantissa_byte (get_or s 0 0) ≡ true
 decimal_first s decimal =
     let some : 0 < length decimal.front =
-        elim (cases_lt 0 (length decimal.front)) [
-          | inl some ↦ some
-          | inr none ↦ absurd (no_mantissa (subst IsMantissa (nil_from_length decimal.front (omega arith)) decimal.first))
-        ] in
+    elim (cases_lt 0 (length decimal.front)) [
+      | inl some ↦ some
+      | inr none ↦ absurd (no_mantissa (subst IsMantissa (nil_from_length decimal.front (omega arith)) decimal.first))
+    ] in
     ap (λ t. is_mantissa_byte (get_or t 0 0)) decimal.joined ∙ ap is_mantissa_byte (get_or_append_left decimal.front decimal.rest 0 0 some) ∙ mantissa_bytes decimal.front decimal.first 0 0 some
 
 number_first : (s : List ℕ) → IsNumber s → is_mantissa_byte (get_or s 0 0) ≡ true
@@ -96,12 +96,12 @@ pub word_token : (text : List ℕ) (n : ℕ) → 0 < length text → n ≡ prefi
 word_token text n there run first =
     let within = prefix_len-le-length is_word_byte text in
     let some : 0 < n =
-        elim (cases_lt 0 n) [
-          | inl some ↦ some
-          | inr none ↦
-              let stop : prefix_len is_word_byte text ≡ 0 = omega arith in
-              absurd (both_ways _ (sym (ap (λ k. is_word_byte (get_or text k 0)) stop) ∙ prefix_len_stops is_word_byte text 0 (omega arith)) (word_start_is_word_byte (get_or text 0 0) first))
-        ] in
+    elim (cases_lt 0 n) [
+      | inl some ↦ some
+      | inr none ↦
+          let stop : prefix_len is_word_byte text ≡ 0 = omega arith in
+          absurd (both_ways _ (sym (ap (λ k. is_word_byte (get_or text k 0)) stop) ∙ prefix_len_stops is_word_byte text 0 (omega arith)) (word_start_is_word_byte (get_or text 0 0) first))
+    ] in
     record {
       some = some;
       within = omega arith;

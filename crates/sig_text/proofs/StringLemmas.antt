@@ -1,13 +1,13 @@
 -- Strings and comments in brackets: an end in a front of the text is one in the text.
-use Rattle.std.proofs.Common.{◌≡◌, ℕ, ◌+◌, ◌-◌, ◌<◌, ◌≤◌, true, false, List, [], ◌∷◌, length, get_or, take, drop, sym, refl, ap, ◌∙◌, subst, arith, length-take-le, get_or-take, inl, inr}
+use Rattle.std.proofs.Common.{◌≡◌, ℕ, ◌+◌, ◌-◌, ◌<◌, ◌≤◌, false, List, length, get_or, take, sym, ap, ◌∙◌, subst, arith, length-take-le, get_or-take, inl, inr}
 use Rattle.std.specs.Prelude.{IsTrue, All}
 use Rattle.std.specs.List.{prefix_len}
-use Rattle.std.proofs.lemmas.Bool.{cases_lt, both_ways, not-false, eqb-true, eq-eqb}
+use Rattle.std.proofs.lemmas.Bool.{cases_lt, both_ways, not-false, eqb-true}
 use Rattle.std.proofs.lemmas.List.Elements.{All-weaker}
 use Rattle.std.proofs.lemmas.List.Sums.{prefix_len-le-length, prefix_len_stops}
 use Rattle.sig_text.specs.Bytes.{is_in_line}
 use Rattle.sig_text.specs.Spelling.{ClosesString, IsString}
-use Rattle.sig_text.specs.Blank.{IsLineComment, ClosesComment, IsBlockComment}
+use Rattle.sig_text.specs.Blank.{ClosesComment, IsBlockComment}
 use Rattle.sig_text.specs.Comments.{BeginsLineComment, BeginsBlockComment, OpensLineComment, OpensBlockComment}
 use Rattle.sig_text.proofs.FrontLemmas.{All-run}
 
@@ -121,19 +121,19 @@ line_comment_front text n run long opened =
     let within : n ≤ length text = omega (arith, prefix_len-le-length is_in_line text) in
     let stops : n < length text → is_in_line (get_or text n 0) ≡ false = λ inside. ap (λ k. is_in_line (get_or text k 0)) run ∙ prefix_len_stops is_in_line text 0 (omega arith) in
     let past_first : 0 < n =
-        elim (cases_lt 0 n) [
-          | inl some ↦ some
-          | inr none ↦
-              let first : n ≡ 0 = omega arith in
-              absurd (both_ways _ (stops (omega arith)) (ap (λ k. is_in_line (get_or text k 0)) first ∙ ap is_in_line opened.first_slash))
-        ] in
+    elim (cases_lt 0 n) [
+      | inl some ↦ some
+      | inr none ↦
+          let first : n ≡ 0 = omega arith in
+          absurd (both_ways _ (stops (omega arith)) (ap (λ k. is_in_line (get_or text k 0)) first ∙ ap is_in_line opened.first_slash))
+    ] in
     let past_second : 1 < n =
-        elim (cases_lt 1 n) [
-          | inl some ↦ some
-          | inr none ↦
-              let second : n ≡ 1 = omega arith in
-              absurd (both_ways _ (stops (omega arith)) (ap (λ k. is_in_line (get_or text k 0)) second ∙ ap is_in_line opened.second_slash))
-        ] in
+    elim (cases_lt 1 n) [
+      | inl some ↦ some
+      | inr none ↦
+          let second : n ≡ 1 = omega arith in
+          absurd (both_ways _ (stops (omega arith)) (ap (λ k. is_in_line (get_or text k 0)) second ∙ ap is_in_line opened.second_slash))
+    ] in
     record {
       within = within;
       spelled = record {

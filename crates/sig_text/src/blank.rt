@@ -66,11 +66,7 @@ fn space_len(text: &[u8], is_head: bool) -> usize
 }
 
 /// Where the blank ends that begins at this place of the text.
-pub(crate) fn blank_end(
-    bytes: &[u8],
-    at: usize,
-    comments: bool,
-) -> Result<Option<usize>, LexFault>
+pub(crate) fn blank_end(bytes: &[u8], at: usize, comments: bool) -> Result<Option<usize>, LexFault>
     requires { at < length bytes.now }
     ensures blank { IfOk result (λ found. IfSome found (λ end. IsBlank bytes.now comments at end)) }
     ensures none { IfOk result (λ found. IfNone found (BeginsNoBlank bytes.now comments at)) }

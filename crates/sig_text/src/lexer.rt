@@ -1,5 +1,5 @@
 //! The tokens of a whole text.
-ghost use Rattle.std.specs.Prelude.{◌≡◌, ℕ, ◌<◌, Bool, List, length, ◌⊎◌, IfOk, IfErr, IfSome, IfNone, IsOkAnd, IsErrOf};
+ghost use Rattle.std.specs.Prelude.{◌≡◌, ℕ, ◌<◌, Bool, List, length, ◌⊎◌, IfOk, IfErr, IfSome, IfNone, IsOkAnd, IsErrOf, All};
 ghost use Rattle.sig_text.specs.Tokens.{IsToken, BeginsNoTokenAt, IsTokens, IsLexFault, IsFaultOrMemory};
 
 use crate::blank::blank_end;
@@ -15,7 +15,11 @@ fn token_at(bytes: &[u8], at: usize) -> Option<Token>
     ensures none { IfNone result (BeginsNoTokenAt bytes.now at) }
 {
     let (kind, len) = token_at_front(&bytes[at..])?;
-    Some(Token { kind, at, end: at + len })
+    Some(Token {
+        kind,
+        at,
+        end: at + len,
+    })
 }
 
 /// Reads the text from its head to its end, or to its first fault.
@@ -45,6 +49,7 @@ fn read_tokens(alloc: Global, bytes: &[u8], comments: bool) -> Result<Vec<Token>
 pub fn tokens(alloc: Global, bytes: &[u8], comments: bool) -> Result<Vec<Token>, LexFault>
     // What is answered is true of the text.
     ensures ok { IfOk result (λ list. IsTokens bytes.now comments list.items) }
+    ensures each { IfOk result (λ list. All (IsToken bytes.now) list.items) }
     ensures fault { IfErr result (IsFaultOrMemory bytes.now comments) }
 
     // What is true of the text is answered, unless memory runs out.
@@ -64,5 +69,4 @@ pub fn reading_is_unique()
         IsLexFault text comments a → IsLexFault text comments b → a ≡ b }
     ensures never_both { (text : List ℕ) (comments : Bool) (list : List Token) (fault : LexFault) →
         IsTokens text comments list → ¬ IsLexFault text comments fault }
-{
-}
+{}

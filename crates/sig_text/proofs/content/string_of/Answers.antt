@@ -1,4 +1,4 @@
-use Rattle.std.proofs.Common.{◌≡◌, ℕ, ◌+◌, ◌-◌, ◌≤◌, sym, subst, arith, get_or, IsUtf8, ◌++◌}
+use Rattle.std.proofs.Common.{◌≡◌, sym, subst, arith, IsUtf8}
 use Rattle.std.proofs.lemmas.Grind.{common_steps}
 use Rattle.sig_text.specs.Content.{content_of}
 use Rattle.sig_text.proofs.ContentLemmas.{quotes_of, IsUtf8-content_of}

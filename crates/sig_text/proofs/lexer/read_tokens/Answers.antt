@@ -1,4 +1,4 @@
-use Rattle.std.proofs.Common.{◌≡◌, ℕ, ◌<◌, ◌≤◌, length, List, inl, inr, sym, ap, refl, subst, arith, is_ok, get_or}
+use Rattle.std.proofs.Common.{◌≡◌, inl, sym, ap, subst, arith, is_ok, get_or}
 use Rattle.sig_text.specs.declared.token.TokenKind.TheVariants.{Str}
 use Rattle.std.proofs.ResultArms.{chosen}
 use Rattle.sig_text.specs.Tokens.{AreTokens}
@@ -21,7 +21,7 @@ loop-at-preserved c =
     record {
       within = found.1.within;
       reading = subst (λ list. AreTokens c.args.bytes.now c.args.comments 0 list token.end) (sym pushed)
-      (push_token c.args.bytes.now c.args.comments 0 c.loop-at.list.items c.loop-at.at token c.loop-at.invariant.reading found.0 found.1);
+          (push_token c.args.bytes.now c.args.comments 0 c.loop-at.list.items c.loop-at.at token c.loop-at.invariant.reading found.0 found.1);
     }
 
 pub returns-then-bytes-at-eq34-clause-fault : goal.returns-then-bytes-at-eq34-clause-fault

@@ -1,4 +1,4 @@
-use Rattle.std.proofs.Common.{◌≡◌, ◌<◌, ◌∙◌, sym, arith, subst}
+use Rattle.std.proofs.Common.{◌<◌, arith, subst}
 use Rattle.std.proofs.lemmas.List.{take_rest}
 use Rattle.sig_text.specs.Fronts.{IsLongestFront}
 use Rattle.sig_text.specs.Spelling.{IsMantissa, IsExponent}
