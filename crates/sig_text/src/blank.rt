@@ -11,6 +11,7 @@ use crate::fault::LexFault;
 
 /// The comment at the front of a text.
 pub(crate) enum Comment {
+    /// Neither `//` nor `/*` stands there.
     Absent,
     /// A comment with its end, of this length.
     Closed(usize),
@@ -41,6 +42,7 @@ fn block_comment_len(text: &[u8]) -> Option<usize>
     None
 }
 
+/// Reads the comment at the front: `//` up to a line feed or the end, or `/*` up to the next `*/`.
 fn comment_at_front(text: &[u8]) -> Comment
     ensures { BeginsComment text.now result }
 {
@@ -65,7 +67,7 @@ fn space_len(text: &[u8], is_head: bool) -> usize
     }
 }
 
-/// Where the blank ends that begins at this place of the text.
+/// Where the blank ends that begins at this place of the text, if one does; the fault is a `/*` without an end.
 pub(crate) fn blank_end(bytes: &[u8], at: usize, comments: bool) -> Result<Option<usize>, LexFault>
     requires { at < length bytes.now }
     ensures blank { IfOk result (λ found. IfSome found (λ end. IsBlank bytes.now comments at end)) }

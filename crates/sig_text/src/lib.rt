@@ -1,8 +1,8 @@
 //! The tokens of DBC and LDF text, and the content of their strings.
 //!
 //! A text is words, numbers, strings and signs, with white space between them and, where the format has them,
-//! comments. Both grammar readers stand on this crate, which stands on std alone: they read the list that `tokens`
-//! gives, and take the content of a string from `string_of`.
+//! comments. Both grammar readers stand on this crate, and it stands on no other of the repository: they read the
+//! list that `tokens` gives, and take the content of a string from `string_of`.
 //!
 //! The theorem: `tokens` answers the list of longest tokens that the text is made of, or the first place at which
 //! there is none, exactly where the text has the one or the other, unless memory runs out; a text has at most one

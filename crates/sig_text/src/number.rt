@@ -1,10 +1,11 @@
-//! Where a number at the front of a text ends. Each function answers 0 where there is none.
+//! The length of the number at the front of a text. Each function answers 0 where the front is not what it reads.
 ghost use Rattle.std.specs.Prelude.{◌≡◌, ◌≤◌, length};
 ghost use Rattle.std.specs.List.{prefix_len};
 ghost use Rattle.std.specs.Char.{is_ascii_digit, is_ascii_hexdigit};
 ghost use Rattle.sig_text.specs.Fronts.{IsLongestFront};
 ghost use Rattle.sig_text.specs.Spelling.{IsHexadecimal, IsFraction, IsPower, IsExponent, IsMantissa, IsDecimal, IsNumber};
 
+/// The run of decimal digits.
 fn digits_len(text: &[u8]) -> usize
     ensures run { result ≡ prefix_len is_ascii_digit text.now }
     ensures within { result ≤ length text.now }
@@ -12,6 +13,7 @@ fn digits_len(text: &[u8]) -> usize
     text.iter().take_while(|b| b.is_ascii_digit()).count()
 }
 
+/// The run of hexadecimal digits.
 fn hexadecimal_digits_len(text: &[u8]) -> usize
     ensures run { result ≡ prefix_len is_ascii_hexdigit text.now }
     ensures within { result ≤ length text.now }
@@ -19,6 +21,7 @@ fn hexadecimal_digits_len(text: &[u8]) -> usize
     text.iter().take_while(|b| b.is_ascii_hexdigit()).count()
 }
 
+/// `0x` or `0X` and hexadecimal digits.
 fn hexadecimal_len(text: &[u8]) -> usize
     ensures { IsLongestFront IsHexadecimal text.now result }
 {
@@ -31,6 +34,7 @@ fn hexadecimal_len(text: &[u8]) -> usize
     }
 }
 
+/// A point and digits, possibly none.
 fn fraction_len(text: &[u8]) -> usize
     ensures { IsLongestFront IsFraction text.now result }
 {
@@ -40,6 +44,7 @@ fn fraction_len(text: &[u8]) -> usize
     }
 }
 
+/// An optional `+` or `-`, and digits.
 fn power_len(text: &[u8]) -> usize
     ensures { IsLongestFront IsPower text.now result }
 {
@@ -52,6 +57,7 @@ fn power_len(text: &[u8]) -> usize
     }
 }
 
+/// `e` or `E`, and the power of ten.
 fn exponent_len(text: &[u8]) -> usize
     ensures { IsLongestFront IsExponent text.now result }
 {
@@ -64,6 +70,7 @@ fn exponent_len(text: &[u8]) -> usize
     }
 }
 
+/// Digits, optionally a point and digits, possibly none; or a point and digits.
 fn mantissa_len(text: &[u8]) -> usize
     ensures { IsLongestFront IsMantissa text.now result }
 {
@@ -77,6 +84,7 @@ fn mantissa_len(text: &[u8]) -> usize
     }
 }
 
+/// A mantissa, and an exponent where a whole one follows.
 fn decimal_len(text: &[u8]) -> usize
     ensures { IsLongestFront IsDecimal text.now result }
 {
@@ -86,6 +94,7 @@ fn decimal_len(text: &[u8]) -> usize
     }
 }
 
+/// A hexadecimal or a decimal number, whichever is longer: `0x1F` also begins with the decimal `0`.
 pub(crate) fn number_len(text: &[u8]) -> usize
     ensures { IsLongestFront IsNumber text.now result }
 {

@@ -9,6 +9,7 @@ use crate::number::number_len;
 use crate::string::string_len;
 use crate::token::TokenKind;
 
+/// The length of the run of letters, digits and `_` at the front.
 fn word_len(text: &[u8]) -> usize
     ensures run { result ≡ prefix_len is_word_byte text.now }
     ensures within { result ≤ length text.now }
