@@ -35,6 +35,7 @@ pub data BlankForm (rest : List ℕ) (n : ℕ) : Type 0 where
   line : get_or rest 0 0 ≡ 47 → get_or rest 1 0 ≡ 47 → BeginsLineComment rest n → BlankForm rest n
   block : get_or rest 0 0 ≡ 47 → get_or rest 1 0 ≡ 42 → BeginsBlockComment rest n → BlankForm rest n
 
+-- white space is a byte from 1 to 32
 space_is_low : (b : ℕ) → is_space b ≡ true → (b ≤ 32) × (0 < b)
 space_is_low b pass = grind (arith, nat_tests)
 
@@ -67,6 +68,7 @@ blank_form text comments from to blank =
           (record { within = within; spelled = spelled })
     ]
 
+-- one line comment begins at one place
 line_longest : (rest : List ℕ) (n m : ℕ) → BeginsLineComment rest n → BeginsLineComment rest m → m ≤ n
 line_longest rest n m comment other =
     elim (cases_lt n m) [
@@ -76,6 +78,7 @@ line_longest rest n m comment other =
       | inr fits ↦ fits
     ]
 
+-- a text begins with at most one blank
 form_unique : (rest : List ℕ) (n m : ℕ) → BlankForm rest n → BlankForm rest m → n ≡ m
 form_unique rest n m first second =
     elim first [

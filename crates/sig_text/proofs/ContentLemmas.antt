@@ -32,6 +32,7 @@ unescaped_char c rest =
           inr (unescaped_plain (encode c) rest (λ k inside backslash. plain (inside_one c [] (encode c) k (sym (append-nil (encode c))) inside (omega arith) ∙ backslash)))
     ]
 
+-- the escapes of whole characters leave whole characters
 unescaped_chars : (cs : List ℕ) → scalars cs ≡ true → IsUtf8 (unescaped (encodes cs))
 unescaped_chars [] all = IsUtf8-nil
 unescaped_chars (c ∷ cs) all =
@@ -68,6 +69,7 @@ pub record Quotes (text : List ℕ) (token : Token) : Type 0 where
   pub opening : get_or text token.at 0 ≡ 34
   pub closing : get_or text (token.end - 1) 0 ≡ 34
 
+-- a string token stands between two quotes
 pub quotes_of : (text : List ℕ) (token : Token) → IsStringOf text token → Quotes text token
 quotes_of text token is =
     let rest = drop token.at text in
@@ -94,6 +96,7 @@ IsUtf8-between_quotes text token is utf8 =
     (IsCharBoundary-after_ascii text token.at utf8 (omega arith) (omega (arith, quotes.opening)))
     (IsCharBoundary-before_ascii text (token.end - 1) (omega arith) (omega (arith, quotes.closing)))
 
+-- bytes of a part are bytes
 slice_small : (text : List ℕ) (from to : ℕ) → ((i : ℕ) → get_or text i 0 < 256) → (i : ℕ) → get_or (slice_range text from to) i 0 < 256
 slice_small text from to small i =
     elim (cases_lt i (to - from)) [

@@ -55,6 +55,7 @@ after_front p Rest (b ∷ rest) n there pass some front =
       longest = after_longest p Rest b rest n front;
     })
 
+-- a front behind a byte of the class would need a front of the rest
 after_nothing_longest : (p : ℕ → Bool) (Rest : List ℕ → Type 0) (b : ℕ) (rest : List ℕ) → (Rest [] → ⊥) → IsLongestFront Rest rest 0 → (m : ℕ) → m ≤ length (b ∷ rest) → IsAfter p Rest (take m (b ∷ rest)) → m ≤ 0
 after_nothing_longest p Rest b rest none front zero inside spelled = omega arith
 after_nothing_longest p Rest b rest none front (suc m) inside spelled =
@@ -70,6 +71,7 @@ after_nothing p Rest (b ∷ rest) none front = record {
   longest = λ m inside spelled. after_nothing_longest p Rest b rest none front m inside spelled;
 }
 
+-- a front behind a byte of the class would begin with one
 after_other_longest : (p : ℕ → Bool) (Rest : List ℕ → Type 0) (b : ℕ) (rest : List ℕ) → p b ≡ false → (m : ℕ) → IsAfter p Rest (take m (b ∷ rest)) → m ≤ 0
 after_other_longest p Rest b rest other zero spelled = omega arith
 after_other_longest p Rest b rest other (suc m) spelled = absurd (both_ways (p b) other spelled.0)
@@ -83,6 +85,7 @@ after_other p Rest (b ∷ rest) other = record {
   longest = λ m inside spelled. after_other_longest p Rest b rest other m spelled;
 }
 
+-- a fraction is no longer than the point and the run of digits
 fraction_longest : (b : ℕ) (digits : List ℕ) (m : ℕ) → m ≤ length (b ∷ digits) → IsFraction (take m (b ∷ digits)) → m ≤ suc (prefix_len is_ascii_digit digits)
 fraction_longest b digits zero inside spelled = omega arith
 fraction_longest b digits (suc m) inside spelled = omega (arith, run_longest is_ascii_digit digits m (omega arith) spelled.1)
@@ -139,6 +142,7 @@ module _ (First Second : List ℕ → Type 0) (c : ℕ → Bool) (of_first : (s 
             omega (arith, rest.longest (m - n) fits (subst (λ i. Second (take (m - i) (drop i text))) same (subst Second places.2 second)))
       ]
 
+  -- the two longest fronts, one behind the other
   pub option_front : (text : List ℕ) (n k : ℕ) → 0 < n → IsLongestFront First text n → IsLongestFront Second (drop n text) k → IsLongestFront (IsWithOption First Second) text (n + k)
   option_front text n k some front rest = record {
     within = omega (arith, front.within, rest.within, length-drop n text);

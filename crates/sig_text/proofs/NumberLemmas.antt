@@ -33,9 +33,11 @@ no_run : (p : ℕ → Bool) (text : List ℕ) → p (get_or text 0 0) ≡ false 
 no_run p [] other = refl
 no_run p (b ∷ text) other = rw other refl
 
+-- digits are one or more
 pub no_digits : AreDecimalDigits [] → ⊥
 no_digits digits = absurd (omega (arith, digits.some))
 
+-- `+` and `-` are no digits
 sign_is_no_digit : (b : ℕ) → is_plus_or_minus b ≡ true → is_ascii_digit b ≡ false
 sign_is_no_digit b sign =
     elim (or_cases _ _ sign) [
@@ -65,18 +67,22 @@ hexadecimal_front text n there nought mark some run =
     subst (IsLongestFront IsHexadecimal text) sum
     (after_front is_nought (IsAfter is_hexadecimal_mark (AreDigits is_ascii_hexdigit)) text (1 + n) (omega arith) (rw nought refl) (omega arith) marked)
 
+-- a fraction begins with no digit
 fraction_begins : (s : List ℕ) → IsFraction s → (0 < length s) × (is_ascii_digit (get_or s 0 0) ≡ false)
 fraction_begins [] fraction = absurd fraction
 fraction_begins (b ∷ digits) fraction = (omega arith, rw (eqb-true b 46 fraction.0) refl)
 
+-- a point and digits are a fraction of two bytes or more
 fraction_from_bare : (s : List ℕ) → IsBareFraction s → IsFraction s × (2 ≤ length s)
 fraction_from_bare [] bare = absurd bare
 fraction_from_bare (b ∷ digits) bare = ((bare.0, bare.1.each), omega (arith, bare.1.some))
 
+-- a fraction of two bytes or more is a point and digits
 bare_from_fraction : (s : List ℕ) → IsFraction s → 2 ≤ length s → IsBareFraction s
 bare_from_fraction [] fraction long = fraction
 bare_from_fraction (b ∷ digits) fraction long = (fraction.0, record { some = omega arith; each = fraction.1 })
 
+-- without digits in front there is no number that begins with digits
 whole_nothing : (text : List ℕ) → prefix_len is_ascii_digit text ≡ 0 → IsLongestFront (IsWithOption AreDecimalDigits IsFraction) text 0
 whole_nothing text none =
     option_nothing AreDecimalDigits IsFraction is_ascii_digit (λ s digits. digits.each) fraction_begins text no_digits
@@ -104,6 +110,7 @@ mantissa_bare text f none fraction long =
     } in
     or_front _ _ text 0 f (whole_nothing text none) bare (omega arith)
 
+-- behind a digit no point stands in front
 bare_other : (text : List ℕ) (m : ℕ) → is_ascii_digit (get_or text 0 0) ≡ true → IsBareFraction (take m text) → ⊥
 bare_other text zero digit bare = bare
 bare_other [] (suc m) digit bare = bare
@@ -125,15 +132,18 @@ mantissa_whole text w f run some fraction =
 unfoldable pub is_mantissa_byte : ℕ → Bool
 is_mantissa_byte b = is_ascii_digit b || is_point b
 
+-- digits are bytes of a mantissa
 digits_in_mantissa : (s : List ℕ) → All (λ b. IsTrue (is_ascii_digit b)) s → All (λ b. IsTrue (is_mantissa_byte b)) s
 unfolding is_mantissa_byte
 digits_in_mantissa s each = All-weaker (λ b. IsTrue (is_ascii_digit b)) (λ b. IsTrue (is_mantissa_byte b)) (λ b digit. or_left _ _ digit) s each
 
+-- so are those of a fraction
 fraction_in_mantissa : (s : List ℕ) → IsFraction s → All (λ b. IsTrue (is_mantissa_byte b)) s
 unfolding is_mantissa_byte
 fraction_in_mantissa [] fraction = absurd fraction
 fraction_in_mantissa (b ∷ digits) fraction = All-cons (λ b. IsTrue (is_mantissa_byte b)) b digits (or_right _ _ fraction.0) (digits_in_mantissa digits fraction.1)
 
+-- so are all bytes of a mantissa
 pub mantissa_bytes : (s : List ℕ) → IsMantissa s → All (λ b. IsTrue (is_mantissa_byte b)) s
 mantissa_bytes s mantissa =
     let Each : List ℕ → Type 0 = All (λ b. IsTrue (is_mantissa_byte b)) in
@@ -147,6 +157,7 @@ mantissa_bytes s mantissa =
       | inr bare ↦ fraction_in_mantissa s (fraction_from_bare s bare).0
     ]
 
+-- an exponent begins with no byte of a mantissa
 exponent_begins : (s : List ℕ) → IsExponent s → (0 < length s) × (is_mantissa_byte (get_or s 0 0) ≡ false)
 unfolding is_mantissa_byte
 exponent_begins [] exponent = absurd exponent
@@ -158,6 +169,7 @@ exponent_begins (b ∷ power) exponent = (
   ],
 )
 
+-- a mantissa is not empty
 pub no_mantissa : IsMantissa [] → ⊥
 no_mantissa mantissa =
     elim mantissa [
@@ -173,6 +185,7 @@ decimal_nothing text none = option_nothing IsMantissa IsExponent is_mantissa_byt
 pub decimal_front : (text : List ℕ) (n k : ℕ) → 0 < n → IsLongestFront IsMantissa text n → IsLongestFront IsExponent (drop n text) k → IsLongestFront IsDecimal text (n + k)
 decimal_front text n k some mantissa exponent = option_front IsMantissa IsExponent is_mantissa_byte mantissa_bytes exponent_begins text n k some mantissa exponent
 
+-- no number begins with a quote
 pub quote_is_no_number : (b : ℕ) → b ≡ 34 → is_mantissa_byte b ≡ false
 unfolding is_mantissa_byte
 quote_is_no_number b quote = rw quote refl

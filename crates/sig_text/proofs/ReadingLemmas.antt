@@ -30,6 +30,7 @@ digit_mantissa b s mantissa single =
       | inr bare ↦ absurd (no_digits (subst IsBareFraction single bare).1)
     ]
 
+-- the same for all numbers
 digit_from_number : (b : ℕ) → IsNumber (b ∷ []) → is_ascii_digit b ≡ true
 digit_from_number b number =
     elim number [
@@ -43,9 +44,11 @@ digit_from_number b number =
           ]
     ]
 
+-- a digit is no mark of the grammars
 digit_is_no_sign : (b : ℕ) → is_ascii_digit b ≡ true → is_sign b ≡ false
 digit_is_no_sign b digit = grind (arith, nat_tests)
 
+-- no bytes spell a number and a sign
 sign_is_no_number : (s : List ℕ) → IsNumber s → IsSpelling Sign s → ⊥
 sign_is_no_number [] number sign = sign
 sign_is_no_number (b ∷ []) number sign = both_ways _ (digit_is_no_sign b (digit_from_number b number)) sign
@@ -90,6 +93,7 @@ token_is_no_blank text comments kind at end to spelled blank =
     let byte = token_byte kind (get_or text at 0) (token_begins text kind at end spelled) in
     no_blank_from_byte text comments at to byte.0 (λ mark. absurd (omega (arith, byte.1))) byte.2 blank
 
+-- a token is its kind and its two places
 same_token : (first second : Token) → first.kind ≡ second.kind → first.at ≡ second.at → first.end ≡ second.end → first ≡ second
 same_token first second kind at end = λ i. record { kind = kind i; at = at i; end = end i }
 
@@ -120,6 +124,7 @@ end_halts text comments = record {
   no_token = λ token at is. absurd (omega (arith, is.ordered, is.within));
 }
 
+-- no token begins at a quote without an end
 no_token_in_string : (text : List ℕ) (at : ℕ) → IsOpenString text at → (kind : TokenKind) (end : ℕ) → end ≤ length text → IsSpelling kind (slice_range text at end) → ⊥
 no_token_in_string text at unclosed Word end within spelled = both_ways _ (ap is_word_start unclosed.opening) (token_begins text Word at end spelled)
 no_token_in_string text at unclosed Number end within spelled = both_ways _ (quote_is_no_number (get_or text at 0) unclosed.opening) (token_begins text Number at end spelled)
@@ -131,6 +136,7 @@ inside_from_read : (text : List ℕ) (at b : ℕ) → 0 < b → get_or text at 0
 inside_from_read text at b some read =
     elim (cases_lt at (length text)) [ inl inside ↦ inside | inr past ↦ absurd (omega (arith, get_or_past text at 0 past)) ]
 
+-- the reading ends at a quote without an end
 string_fault_halts : (text : List ℕ) (comments : Bool) (at : ℕ) → IsOpenString text at → Halts text comments at
 string_fault_halts text comments at unclosed = record {
   no_blank = λ end blank. no_blank_from_byte text comments at end (omega (arith, unclosed.opening)) (λ mark. absurd (omega (arith, unclosed.opening))) (λ slash. absurd (omega (arith, unclosed.opening))) blank;
@@ -139,6 +145,7 @@ string_fault_halts text comments at unclosed = record {
       no_token_in_string text at unclosed token.kind token.end is.within spelled;
 }
 
+-- the reading ends at a `/*` without an end
 comment_fault_halts : (text : List ℕ) (comments : Bool) (at : ℕ) → IsOpenComment text at → Halts text comments at
 comment_fault_halts text comments at unclosed =
     let first = first_of_rest text at in
@@ -214,12 +221,14 @@ record Path (text : List ℕ) (comments : Bool) (from : ℕ) (tokens : List Toke
   pub is_path : IsPath text comments from steps to
   pub spell : tokens_of steps ≡ tokens
 
+-- blanks may stand before a path
 path_behind_gap : (text : List ℕ) (comments : Bool) (from : ℕ) (ends : List ℕ) (place : ℕ) (tokens : List Token) (to : ℕ) → AreBlanks text comments from ends place → Path text comments place tokens to → Path text comments from tokens to
 path_behind_gap text comments from [] place tokens to gap path = subst (λ start. Path text comments start tokens to) (sym gap) path
 path_behind_gap text comments from (end ∷ ends) place tokens to gap path =
     let rest = path_behind_gap text comments end ends place tokens to gap.1 path in
     record { steps = over_blank end ∷ rest.steps; is_path = (gap.0, rest.is_path); spell = rest.spell }
 
+-- the tokens of a text are a path
 path_of_tokens : (text : List ℕ) (comments : Bool) (from : ℕ) (tokens : List Token) (to : ℕ) → AreTokens text comments from tokens to → Path text comments from tokens to
 path_of_tokens text comments from [] to are =
     path_behind_gap text comments from are.0 to [] to are.1 (record { steps = []; is_path = refl; spell = refl })
@@ -276,6 +285,7 @@ tokens_without_fault text comments tokens fault are is =
     let place = (reading_unique text comments tokens is.0.0 (length text) (place_of fault) are is.0.1 (end_halts text comments) (fault_halts text comments fault is.1)).1 in
     absurd (omega (arith, place, fault_within text comments fault is.1))
 
+-- a blank may follow a gap
 push_gap : (text : List ℕ) (comments : Bool) (from : ℕ) (ends : List ℕ) (to end : ℕ) → AreBlanks text comments from ends to → IsBlank text comments to end → AreBlanks text comments from (ends ++ end ∷ []) end
 push_gap text comments from [] to end gap blank = (subst (λ place. IsBlank text comments place end) (sym gap) blank, refl)
 push_gap text comments from (next ∷ ends) to end gap blank = (gap.0, push_gap text comments next ends to end gap.1 blank)

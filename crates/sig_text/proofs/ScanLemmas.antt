@@ -21,16 +21,20 @@ first_of_front c zero text none pass = absurd (both_ways _ none pass)
 first_of_front c (suc n) [] none pass = pass
 first_of_front c (suc n) (b ∷ text) none pass = pass
 
+-- what begins a word begins no number
 pub word_is_no_number : (b : ℕ) → is_word_start b ≡ true → is_mantissa_byte b ≡ false
 unfolding is_mantissa_byte
 word_is_no_number b word = grind (arith, nat_tests)
 
+-- what begins a word is no sign
 pub word_is_no_sign : (b : ℕ) → is_word_start b ≡ true → is_sign b ≡ false
 word_is_no_sign b word = grind (arith, nat_tests)
 
+-- what begins a word is no quote
 pub word_is_no_quote : (b : ℕ) → is_word_start b ≡ true → b ≡ 34 → ⊥
 word_is_no_quote b word quote = both_ways _ (ap is_word_start quote) word
 
+-- what begins a word may also go on with it
 word_start_is_word_byte : (b : ℕ) → is_word_start b ≡ true → is_word_byte b ≡ true
 word_start_is_word_byte b word = grind (arith, nat_tests)
 
@@ -41,11 +45,13 @@ first_class Number = is_mantissa_byte
 first_class Str = λ b. b == 34
 first_class Sign = is_sign
 
+-- a hexadecimal number begins with a digit
 hexadecimal_first : (s : List ℕ) → IsHexadecimal s → is_mantissa_byte (get_or s 0 0) ≡ true
 unfolding is_mantissa_byte
 hexadecimal_first [] hexadecimal = absurd hexadecimal
 hexadecimal_first (b ∷ rest) hexadecimal = rw (eqb-true b 48 hexadecimal.0) refl
 
+-- a decimal number begins with a digit or a point
 decimal_first : (s : List ℕ) → IsDecimal s → is_mantissa_byte (get_or s 0 0) ≡ true
 decimal_first s decimal =
     let some : 0 < length decimal.front =
@@ -55,14 +61,17 @@ decimal_first s decimal =
     ] in
     ap (λ t. is_mantissa_byte (get_or t 0 0)) decimal.joined ∙ ap is_mantissa_byte (get_or_append_left decimal.front decimal.rest 0 0 some) ∙ mantissa_bytes decimal.front decimal.first 0 0 some
 
+-- so does every number
 number_first : (s : List ℕ) → IsNumber s → is_mantissa_byte (get_or s 0 0) ≡ true
 number_first s number = elim number [ inl hexadecimal ↦ hexadecimal_first s hexadecimal | inr decimal ↦ decimal_first s decimal ]
 
+-- a sign is one mark of the grammars
 pub sign_first : (s : List ℕ) → IsSign s → (is_sign (get_or s 0 0) ≡ true) × (length s ≡ 1)
 sign_first [] sign = absurd sign
 sign_first (b ∷ []) sign = (sign, refl)
 sign_first (b ∷ c ∷ rest) sign = absurd sign
 
+-- no token begins with the byte 0
 zero_begins_nothing : (kind : TokenKind) → first_class kind 0 ≡ false
 unfolding is_mantissa_byte
 zero_begins_nothing Word = refl
@@ -70,6 +79,7 @@ zero_begins_nothing Number = refl
 zero_begins_nothing Str = refl
 zero_begins_nothing Sign = refl
 
+-- the first byte of a token is of its kind
 pub spelling_first : (kind : TokenKind) (s : List ℕ) → IsSpelling kind s → first_class kind (get_or s 0 0) ≡ true
 spelling_first Word s word = word.start
 spelling_first Number s number = number_first s number
@@ -112,6 +122,7 @@ word_token text n there run first =
       longest = word_longest text n run first;
     }
 
+-- how long a front of each kind can be where a string begins
 string_only : (text : List ℕ) (n : ℕ) → n ≤ length text → IsString (take n text) → get_or text 0 0 ≡ 34 → (other : TokenKind) (m : ℕ) → m ≤ length text → IsSpelling other (take m text) → m ≤ n
 string_only text n within string first Word m inside spelled = absurd (other_kind Word m text (rw first refl) spelled)
 string_only text n within string first Number m inside spelled = absurd (other_kind Number m text (quote_is_no_number (get_or text 0 0) first) spelled)
@@ -151,6 +162,7 @@ number_token text n no_word no_quote some number = record {
       elim (plain_longest text n no_word no_quote number other m inside spelled) [ inl within ↦ within | inr sign ↦ omega (arith, sign.0) ];
 }
 
+-- a mark in front is a sign
 sign_front : (text : List ℕ) → 0 < length text → is_sign (get_or text 0 0) ≡ true → IsSign (take 1 text)
 sign_front [] there sign = absurd (omega arith)
 sign_front (b ∷ text) there sign = sign
@@ -165,6 +177,7 @@ sign_token text there no_word no_quote number sign = record {
       elim (plain_longest text 0 no_word no_quote number other m inside spelled) [ inl within ↦ omega arith | inr one ↦ omega (arith, one.0) ];
 }
 
+-- no token is empty
 some_spelling : (kind : TokenKind) (text : List ℕ) (m : ℕ) → m ≤ 0 → IsSpelling kind (take m text) → ⊥
 some_spelling kind text zero none spelled = both_ways _ (zero_begins_nothing kind) (spelling_first kind [] spelled)
 some_spelling kind text (suc m) none spelled = absurd (omega arith)

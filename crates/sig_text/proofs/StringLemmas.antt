@@ -70,6 +70,7 @@ comment_closes_in_front text n place short closes = record {
   closing_slash = get_or-take n text (place + 1) 0 short ∙ closes.closing_slash;
 }
 
+-- what closes the comment in a front closes it in the text
 pub comment_closes_in_text : (text : List ℕ) (n place : ℕ) → place + 1 < n → ClosesComment (take n text) place → ClosesComment text place
 comment_closes_in_text text n place short closes = record {
   inside = closes.inside;
@@ -99,6 +100,7 @@ comment_end text n within comment =
     let long : 2 ≤ n - 2 = omega (arith, comment.closed.inside) in
     (long, comment_closes_in_text text n (n - 2) (omega arith) (subst (λ k. ClosesComment (take n text) (k - 2)) size comment.closed))
 
+-- without an end no front is a block comment
 pub comment_endless : (text : List ℕ) → ((k : ℕ) → k + 1 < length text → ClosesComment text k → ⊥) → (n : ℕ) → n ≤ length text → IsBlockComment (take n text) → ⊥
 comment_endless text none n within comment =
     let end = comment_end text n within comment in
