@@ -1,0 +1,9 @@
+pub mod DigitLemmas
+pub mod Fits
+pub mod Least
+pub mod Powers
+pub mod ShortestLemmas
+pub mod Signs
+pub mod SpellingLemmas
+pub mod TextLemmas
+pub mod ZeroLemmas
