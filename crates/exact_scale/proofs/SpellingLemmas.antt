@@ -4,10 +4,10 @@ use Rattle.exact_scale.specs.Digits.{IsDigit, AllDigits}
 use Rattle.exact_scale.specs.Parts.{NoDigitFirst, NoPointFirst, NoSignFirst, TakesSign, TakesPoint}
 use Rattle.exact_scale.specs.Spelling.{Sign, NoSign, Plus, Minus, sign_text, Exponent, Spelling, fraction_digits, fraction_text, exponent_text, text_of, IsLawfulExponent, IsLawful, Spells}
 
-head_same : {x y : ℕ} {xs ys : List ℕ} → x ∷ xs ≡ y ∷ ys → x ≡ y
+pub head_same : {x y : ℕ} {xs ys : List ℕ} → x ∷ xs ≡ y ∷ ys → x ≡ y
 head_same e = cc
 
-tail_same : {x y : ℕ} {xs ys : List ℕ} → x ∷ xs ≡ y ∷ ys → xs ≡ ys
+pub tail_same : {x y : ℕ} {xs ys : List ℕ} → x ∷ xs ≡ y ∷ ys → xs ≡ ys
 tail_same e = cc
 
 -- the digits in front are the same, and so is what follows
@@ -109,9 +109,9 @@ digits_no_sign : (digits : List ℕ) → AllDigits digits → NoSignFirst digits
 digits_no_sign [] all = tt
 digits_no_sign (d ∷ digits) all = (λ e. omega (arith, all.0.0), λ e. omega (arith, all.0.0))
 
--- a lawful exponent takes its sign
-pub exponent_takes_sign : (e : Exponent) → IsLawfulExponent (Some e) → TakesSign e.sign e.digits
-exponent_takes_sign e lawful = some_takes_sign e.sign e.digits (digits_no_sign e.digits lawful.1)
+-- digits take any sign
+pub digits_take_sign : (sign : Sign) (digits : List ℕ) → AllDigits digits → TakesSign sign digits
+digits_take_sign sign digits all = some_takes_sign sign digits (digits_no_sign digits all)
 
 same_exponent : (x y : Exponent) → x.mark ≡ y.mark → x.sign ≡ y.sign → x.digits ≡ y.digits → Some x ≡ Some y
 same_exponent x y m s d =
@@ -124,7 +124,7 @@ exponent_once None None p q e = refl
 exponent_once None (Some y) p q e = cc
 exponent_once (Some x) None p q e = cc
 exponent_once (Some x) (Some y) p q e =
-    let after = sign_once x.sign y.sign x.digits y.digits (exponent_takes_sign x p) (exponent_takes_sign y q) (tail_same e) in
+    let after = sign_once x.sign y.sign x.digits y.digits (digits_take_sign x.sign x.digits p.1) (digits_take_sign y.sign y.digits q.1) (tail_same e) in
     same_exponent x y (head_same e) after.0 after.1
 
 same_spelling : (s t : Spelling) → s.sign ≡ t.sign → s.whole ≡ t.whole → s.fraction ≡ t.fraction → s.exponent ≡ t.exponent → s ≡ t

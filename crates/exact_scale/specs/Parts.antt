@@ -1,7 +1,7 @@
 -- What the reader's steps say to one another: where a text is cut, and numbers that are kept up to a bound.
-use Rattle.std.specs.Prelude.{◌≡◌, ℕ, ◌+◌, ◌*◌, ◌^◌, ◌%◌, ◌<◌, ◌≤◌, min, ◌⊎◌, Bool, true, false, List, [], ◌∷◌, ◌++◌, length, Option, Some, None}
+use Rattle.std.specs.Prelude.{◌≡◌, ℕ, ◌+◌, ◌*◌, ◌^◌, ◌-◌, ◌%◌, ◌<◌, ◌≤◌, min, ◌⊎◌, Bool, true, false, List, [], ◌∷◌, ◌++◌, length, Option, Some, None}
 use Rattle.exact_scale.specs.Digits.{IsDigit, AllDigits, number}
-use Rattle.exact_scale.specs.Spelling.{Sign, NoSign, Plus, Minus, sign_text, Exponent, Spelling, fraction_digits, fraction_text, exponent_text, IsLawfulExponent, Spells, raised, lowered}
+use Rattle.exact_scale.specs.Spelling.{Sign, NoSign, Plus, Minus, sign_text, Exponent, Spelling, fraction_digits, fraction_text, exponent_text, IsLawfulExponent, Spells, upward, downward, raised, lowered}
 
 -- the bytes are none or begin with something else than a digit
 abbrev pub NoDigitFirst : List ℕ → Type 0
@@ -63,22 +63,36 @@ pub record ExponentRead (text : List ℕ) (up down : ℕ) : Type 0 where
   pub exponent : Option Exponent
   pub lawful : IsLawfulExponent exponent
   pub joined : text ≡ exponent_text exponent
-  pub raised : up ≡ capped (raised exponent)
-  pub lowered : down ≡ capped (lowered exponent)
+  pub upward : up ≡ capped (raised exponent)
+  pub downward : down ≡ capped (lowered exponent)
 
 -- the text is neither
 abbrev pub NoExponent : List ℕ → Type 0
 NoExponent text = (exponent : Option Exponent) → IsLawfulExponent exponent → text ≡ exponent_text exponent → ⊥
 
+-- what follows the mark of an exponent
+pub record SignedRead (text : List ℕ) (up down : ℕ) : Type 0 where
+  pub sign : Sign
+  pub digits : List ℕ
+  pub all : AllDigits digits
+  pub some_digit : 0 < length digits
+  pub joined : text ≡ sign_text sign ++ digits
+  pub upward : up ≡ capped (upward sign (number digits))
+  pub downward : down ≡ capped (downward sign (number digits))
+
+-- what follows is no sign and digits
+abbrev pub NoSigned : List ℕ → Type 0
+NoSigned text = (sign : Sign) (digits : List ℕ) → AllDigits digits → 0 < length digits → text ≡ sign_text sign ++ digits → ⊥
+
 -- the parts of a decimal text
-pub record HasParts (text : List ℕ) (negative : Bool) (whole fraction : List ℕ) (up down : ℕ) : Type 0 where
+pub record HasParts (text : List ℕ) (negative : Bool) (before after : List ℕ) (up down : ℕ) : Type 0 where
   pub spelling : Spelling
   pub spelled : Spells text spelling
   pub minus : is_minus spelling.sign ≡ negative
-  pub whole : spelling.whole ≡ whole
-  pub fraction : fraction_digits spelling.fraction ≡ fraction
-  pub raised : up ≡ capped (raised spelling.exponent)
-  pub lowered : down ≡ capped (lowered spelling.exponent)
+  pub whole : spelling.whole ≡ before
+  pub fraction : fraction_digits spelling.fraction ≡ after
+  pub upward : up ≡ capped (raised spelling.exponent)
+  pub downward : down ≡ capped (lowered spelling.exponent)
 
 -- `n` is a number that does not end in 0, which is kept up to 2^62, with zeros behind it; 0 has none
 pub record IsSignificand (n size zeros : ℕ) : Type 0 where
@@ -91,3 +105,18 @@ pub record IsSignificand (n size zeros : ℕ) : Type 0 where
 pub record IsLeastSize (above below n k : ℕ) : Type 0 where
   pub same : n * below ≡ above * 10 ^ k
   pub least : (j m : ℕ) → m * below ≡ above * 10 ^ j → k ≤ j
+
+-- the least decimal is past the limits
+pub record LeastSizeTooWide (above below : ℕ) : Type 0 where
+  pub size : ℕ
+  pub places : ℕ
+  pub least : IsLeastSize above below size places
+  pub wide : (30 < places) ⊎ (2 ^ 62 ≤ size)
+
+-- a number that does not end in 0, or 0, to be raised and lowered: kept are the number up to 2^62, and by how much more it is
+-- raised than lowered or lowered than raised, which decide alike below 64
+pub record Moves (size up down short rise fall : ℕ) : Type 0 where
+  pub kept : size ≡ min short (2 ^ 62)
+  pub last : (short ≡ 0) ⊎ (0 < short % 10)
+  pub upward : min up 64 ≡ min (rise - fall) 64
+  pub downward : min down 64 ≡ min (fall - rise) 64

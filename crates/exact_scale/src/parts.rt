@@ -1,7 +1,7 @@
 //! The parts of a decimal text: its sign, the digits before and after the point, and the exponent.
 ghost use Rattle.std.specs.Prelude.{◌≡◌, ◌<◌, IfSome, IfNone, length};
 ghost use Rattle.exact_scale.specs.Digits.{AllDigits, number};
-ghost use Rattle.exact_scale.specs.Parts.{SignSplit, DigitSplit, PointSplit, ExponentRead, NoExponent, HasParts, NoDigitFirst, capped};
+ghost use Rattle.exact_scale.specs.Parts.{SignSplit, DigitSplit, PointSplit, ExponentRead, NoExponent, SignedRead, NoSigned, HasParts, NoDigitFirst, capped};
 ghost use Rattle.exact_scale.specs.Spelling.{IsDecimalText};
 
 /// The exponent of a decimal text is kept up to this bound, above what the digits of any text can make up for.
@@ -23,7 +23,9 @@ pub(crate) struct Parts<'a> {
 /// By how many places an exponent raises and lowers the value, each up to the bound; one of them is 0.
 #[derive(Clone, Copy)]
 pub(crate) struct Exponent {
+    /// By how many places the value is raised.
     pub(crate) raised: u128,
+    /// By how many places the value is lowered.
     pub(crate) lowered: u128,
 }
 
@@ -101,8 +103,11 @@ fn read_exponent(text: &[u8]) -> Option<Exponent>
     }
 }
 
-/// The exponent of what follows the `e`.
-fn read_signed(text: &[u8]) -> Option<Exponent> {
+/// The exponent of what follows the `e`: an optional sign and digits.
+fn read_signed(text: &[u8]) -> Option<Exponent>
+    ensures some { IfSome result (λ e. SignedRead text.now e.raised e.lowered) }
+    ensures none { IfNone result (NoSigned text.now) }
+{
     let (negative, unsigned) = split_sign(text);
     let (digits, rest) = split_digits(unsigned);
     if digits.is_empty() || !rest.is_empty() {

@@ -1,7 +1,7 @@
 //! The digits of a decimal as a number without trailing zeros, kept up to a bound, and the count of those zeros.
-ghost use Rattle.std.specs.Prelude.{◌≡◌, ◌+◌, ◌*◌, ◌^◌, ◌-◌, ◌≤◌, ◌<◌, ◌⊎◌, ◌++◌, ℕ, min, IfSome, IfNone, length};
+ghost use Rattle.std.specs.Prelude.{◌≡◌, ◌+◌, ◌*◌, ◌^◌, ◌≤◌, ◌<◌, ◌++◌, ℕ, IfSome, IfNone, length};
 ghost use Rattle.exact_scale.specs.Digits.{AllDigits, number};
-ghost use Rattle.exact_scale.specs.Parts.{IsSignificand, IsLeastSize};
+ghost use Rattle.exact_scale.specs.Parts.{IsSignificand, IsLeastSize, LeastSizeTooWide, Moves};
 
 /// Numerators are below this.
 const NUMERATOR_LIMIT: u128 = 1 << 62;
@@ -66,9 +66,13 @@ impl Significand {
         }
     }
 
-    /// The number moved up or down by places, if it is within the limits: a numerator, and how many places it has.
+    /// The number without its zeros moved up or down, if it is within the limits: a numerator, and how many places it has.
     pub(crate) fn moved(self, up: u128, down: u128) -> Option<(u64, u32)>
-        requires { (up ≡ 0) ⊎ (down ≡ 0) }
+        ensures some { IfSome result (λ r. (short rise fall : ℕ) → Moves self.size up down short rise fall
+            → IsLeastSize (short * 10 ^ rise) (10 ^ fall) r.0 r.1) }
+        ensures narrow { IfSome result (λ r. (r.0 < 2 ^ 62) × (r.1 ≤ 30)) }
+        ensures none { IfNone result ((short rise fall : ℕ) → Moves self.size up down short rise fall
+            → LeastSizeTooWide (short * 10 ^ rise) (10 ^ fall)) }
     {
         if self.size == 0 {
             return Some((0, 0));
@@ -85,7 +89,11 @@ impl Significand {
 }
 
 /// A significand with its zeros and one more digit behind it, up to the limit.
-fn joined(front: Significand, digit: u8) -> u64 {
+fn joined(front: Significand, digit: u8) -> u64
+    requires positive { 0 < digit }
+    requires digit { digit < 10 }
+    ensures { (n : ℕ) → IsSignificand n front.size front.zeros → IsSignificand (n * 10 + digit) result 0 }
+{
     if front.zeros < 18 {
         let unit = 10u128.pow(front.zeros as u32 + 1);
         let size = u128::from(front.size) * unit + u128::from(digit);
