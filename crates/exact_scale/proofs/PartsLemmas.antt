@@ -1,6 +1,6 @@
 -- Where a text is cut, and what an exponent and the parts of a text are.
 use Rattle.std.proofs.Common.{◌≡◌, ℕ, zero, suc, ◌+◌, ◌-◌, ◌*◌, ◌^◌, ◌<◌, ◌≤◌, min, ◌⊎◌, inl, inr, Bool, true, false, List, [], ◌∷◌, ◌++◌, length, take, drop, get_or, Option, Some, None, sym, ap, ◌∙◌, subst, refl, ⊎_elim, arith, length-append, ℤ, pos, negsuc, neg_ℤ, cond}
-use Rattle.std.specs.Int.{IsOutOfRange}
+use Rattle.std.specs.Prelude.{IfSome}
 use Rattle.std.proofs.Math.Seq.{drop-cons}
 use Rattle.std.proofs.lemmas.List.{take_more, take-append-drop, append-nil}
 use Rattle.exact_scale.specs.Digits.{IsDigit, AllDigits, number}
@@ -165,3 +165,18 @@ pub bad_exponent : (text unsigned whole after digits tail : List ℕ) (negative 
     → PointSplit after digits tail → NoExponent tail → ¬ IsDecimalText text
 bad_exponent text unsigned whole after digits tail negative s d p none (t, spelled) =
     none t.exponent spelled.lawful.exponent (same_parts text unsigned whole after digits tail negative s d p t spelled).tail
+
+-- ---- a text by its first byte
+
+pub first_byte : (text : List ℕ) (byte : ℕ) → 1 ≤ length text → get_or text 0 0 ≡ byte → text ≡ byte ∷ take (length text - 1) (drop 1 text)
+first_byte [] byte some e = absurd (omega arith)
+first_byte (d ∷ text) byte some e =
+    let less : length text ≤ suc (length text) - 1 = omega arith in
+    ap (λ l. d ∷ l) (sym (take_all text (suc (length text) - 1) less)) ∙ ap (λ b. b ∷ take (suc (length text) - 1) text) e
+
+pub capped_more : (n digit size result : ℕ) → size ≡ capped n → result ≡ min (size * 10 + digit) (2 ^ 100) → result ≡ capped (n * 10 + digit)
+capped_more n digit size result so_far e = omega arith
+
+pub some_weaker : {T : Type 0} (r : Option T) (P Q : T → Type 0) → ((x : T) → P x → Q x) → IfSome r P → IfSome r Q
+some_weaker None P Q weaker h = tt
+some_weaker (Some x) P Q weaker h = weaker x h

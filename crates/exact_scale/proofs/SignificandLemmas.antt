@@ -1,5 +1,5 @@
 -- Digits read one by one: the number without its last zeros, and the zeros.
-use Rattle.std.proofs.Common.{◌≡◌, ℕ, zero, suc, ◌+◌, ◌-◌, ◌*◌, ◌/◌, ◌%◌, ◌^◌, ◌<◌, ◌≤◌, min, ◌⊎◌, inl, inr, List, [], ◌∷◌, ◌++◌, length, take, get_or, sym, ap, ◌∙◌, subst, refl, ⊎_elim, arith, pow-suc, mul_assoc, mul-one, zero-mul, mul_comm, mul-le-mul_right}
+use Rattle.std.proofs.Common.{◌≡◌, ℕ, zero, suc, ◌+◌, ◌-◌, ◌*◌, ◌/◌, ◌%◌, ◌^◌, ◌<◌, ◌≤◌, min, ◌⊎◌, inl, inr, List, [], ◌∷◌, ◌++◌, length, take, get_or, sym, ap, ◌∙◌, subst, refl, ⊎_elim, arith, pow-suc, mul_assoc, mul-one, zero-mul, zero-add, mul_comm, mul-le-mul_right}
 use Rattle.std.proofs.Math.Nat.{le-mul_of_pos_right}
 use Rattle.std.proofs.lemmas.List.{take_more}
 use Rattle.std.proofs.lemmas.Nat.{mod-mul-add, pow-add}
@@ -133,3 +133,24 @@ moves_wide size up down short rise fall some few wide m =
     let below : size ≤ short = omega (arith, m.kept) in
     let product = mul-le-mul_right (10 ^ up) below in
     too_wide size up down short rise fall some m (inr (subst (λ u. 2 ^ 62 ≤ short * 10 ^ u) (sym ups) (omega arith)))
+
+-- one more digit of a list
+pub extended_more : (n : ℕ) (digits : List ℕ) (i size zeros : ℕ) → i < length digits
+    → IsSignificand ((n * 10 ^ i + number (take i digits)) * 10 + (get_or digits i 0 - 48)) size zeros
+    → IsSignificand (n * 10 ^ (i + 1) + number (take (i + 1) digits)) size zeros
+extended_more n digits i size zeros within s =
+    let next = number_more digits i within in
+    let power = ten_times n i 1 in
+    let e : (n * 10 ^ i + number (take i digits)) * 10 + (get_or digits i 0 - 48) ≡ n * 10 ^ (i + 1) + number (take (i + 1) digits) = omega arith in
+    subst (λ m. IsSignificand m size zeros) e s
+
+pub none_yet : IsSignificand 0 0 0
+none_yet = record { short = 0; same = refl; last = inl (refl, refl); kept = refl }
+
+-- the digits of two lists
+pub both_read : (whole fraction : List ℕ) (size zeros : ℕ)
+    → IsSignificand ((0 * 10 ^ length whole + number whole) * 10 ^ length fraction + number fraction) size zeros → IsSignificand (number (whole ++ fraction)) size zeros
+both_read whole fraction size zeros s =
+    let e : (0 * 10 ^ length whole + number whole) * 10 ^ length fraction + number fraction ≡ number (whole ++ fraction) =
+        ap (λ w. w * 10 ^ length fraction + number fraction) (ap (λ z. z + number whole) (zero-mul (10 ^ length whole)) ∙ zero-add (number whole)) ∙ sym (number-append whole fraction) in
+    subst (λ m. IsSignificand m size zeros) e s

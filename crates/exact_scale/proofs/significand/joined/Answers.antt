@@ -1,10 +1,9 @@
-use Rattle.std.proofs.Common.{◌≡◌, ◌+◌, ◌*◌, ◌^◌, min, ap, ◌∙◌, arith}
 use Rattle.exact_scale.proofs.SignificandLemmas.{pushed_digit, pushed_far}
 use Rattle.exact_scale.proofs.significand.joined.Goals as goal
 
 pub returns-then-front-lt18 : goal.returns-then-front-lt18
 returns-then-front-lt18 c = λ n s.
-    pushed_digit n c.args.front.size c.args.front.zeros c.args.digit c.min.result c.requires.positive c.requires.digit ? s
+    pushed_digit n c.args.front.size c.args.front.zeros c.args.digit c.min.result c.requires.positive c.requires.digit (cc) s
 
 pub returns-else-front-lt18 : goal.returns-else-front-lt18
 returns-else-front-lt18 c = λ n s.
