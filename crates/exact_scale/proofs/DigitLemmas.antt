@@ -163,10 +163,11 @@ decimal_digits_shown zero n below =
 decimal_digits_shown (suc places) n below = ⊎_elim
     (λ small. let e = decimal_digits_small n small in (subst AllDigits (sym e) ((omega arith, omega arith), tt), ap number e ∙ omega (arith, pow-zero 10)))
     (λ large.
-        let e = decimal_digits_step n large in
-        let front = decimal_digits_shown places (n / 10) (front_below places n below) in
-        (subst AllDigits (sym e) (AllDigits-append _ _ front.0 ((omega arith, omega (arith, mod_below n 10 (omega arith))), tt)),
-        ap number e ∙ number_push (decimal_digits (n / 10)) (n % 10) ∙ ap (λ f. f * 10 + n % 10) front.1 ∙ div-add-mod' n 10))
+    let e = decimal_digits_step n large in
+    let front = decimal_digits_shown places (n / 10) (front_below places n below) in (
+      subst AllDigits (sym e) (AllDigits-append _ _ front.0 ((omega arith, omega (arith, mod_below n 10 (omega arith))), tt)),
+      ap number e ∙ number_push (decimal_digits (n / 10)) (n % 10) ∙ ap (λ f. f * 10 + n % 10) front.1 ∙ div-add-mod' n 10,
+    ))
     (cases_lt n 10)
 
 below_ten : (n : ℕ) → n < 10 ^ n

@@ -22,4 +22,4 @@ sum_size (negsuc a) (negsuc b) = omega arith
 pub sum_fits : (raw factor offset : ℤ) → IsRawValue raw → IsNarrow factor → IsNarrow offset → FitsSigned w128 ((raw *ℤ factor) +ℤ offset)
 sum_fits raw factor offset r f o =
     fits_signed_from_abs w128 ((raw *ℤ factor) +ℤ offset)
-        (omega (arith, sum_size (raw *ℤ factor) offset, unsigned_abs-mul raw factor, mul-le (unsigned_abs raw) (unsigned_abs factor) (2 ^ 64) (2 ^ 62) (raw_size raw r) (omega arith)))
+    (omega (arith, sum_size (raw *ℤ factor) offset, unsigned_abs-mul raw factor, mul-le (unsigned_abs raw) (unsigned_abs factor) (2 ^ 64) (2 ^ 62) (raw_size raw r) (omega arith)))

@@ -48,13 +48,22 @@ split_at_end text front back i past all f b = record {
 
 pub point_taken : (text after digits tail : List ℕ) → text ≡ 46 ∷ after → DigitSplit after digits tail → PointSplit text digits tail
 point_taken text after digits tail e split = record {
-  fraction = Some digits; joined = e ∙ ap (λ l. 46 ∷ l) split.joined; shown = refl; all = split.digits; takes = tt; stop = split.stop;
+  fraction = Some digits;
+  joined = e ∙ ap (λ l. 46 ∷ l) split.joined;
+  shown = refl;
+  all = split.digits;
+  takes = tt;
+  stop = split.stop;
 }
 
 pub no_point : (text digits tail : List ℕ) → NoPointFirst text → NoDigitFirst text → digits ≡ [] → tail ≡ text → PointSplit text digits tail
 no_point text digits tail other stop none same = record {
-  fraction = None; joined = sym same; shown = sym none; all = subst AllDigits (sym none) tt;
-  takes = subst NoPointFirst (sym same) other; stop = subst NoDigitFirst (sym same) stop;
+  fraction = None;
+  joined = sym same;
+  shown = sym none;
+  all = subst AllDigits (sym none) tt;
+  takes = subst NoPointFirst (sym same) other;
+  stop = subst NoDigitFirst (sym same) stop;
 }
 
 -- ---- an exponent
@@ -75,7 +84,10 @@ signed_digits text unsigned digits rest sign e split none = e ∙ ap (λ l. sign
 pub signed_down : (text unsigned digits rest : List ℕ) (size : ℕ) → SignSplit text true unsigned → DigitSplit unsigned digits rest → 0 < length digits → rest ≡ []
     → size ≡ capped (number digits) → SignedRead text 0 size
 signed_down text unsigned digits rest size s d some none e = record {
-  sign = s.sign; digits = digits; all = d.digits; some_digit = some;
+  sign = s.sign;
+  digits = digits;
+  all = d.digits;
+  some_digit = some;
   joined = signed_digits text unsigned digits rest s.sign s.joined d.joined none;
   upward = sym (ap capped (upward_by s.sign (number digits) s.minus).0);
   downward = e ∙ sym (ap capped (upward_by s.sign (number digits) s.minus).1);
@@ -84,7 +96,10 @@ signed_down text unsigned digits rest size s d some none e = record {
 pub signed_up : (text unsigned digits rest : List ℕ) (size : ℕ) → SignSplit text false unsigned → DigitSplit unsigned digits rest → 0 < length digits → rest ≡ []
     → size ≡ capped (number digits) → SignedRead text size 0
 signed_up text unsigned digits rest size s d some none e = record {
-  sign = s.sign; digits = digits; all = d.digits; some_digit = some;
+  sign = s.sign;
+  digits = digits;
+  all = d.digits;
+  some_digit = some;
   joined = signed_digits text unsigned digits rest s.sign s.joined d.joined none;
   upward = e ∙ sym (ap capped (downward_by s.sign (number digits) s.minus).0);
   downward = sym (ap capped (downward_by s.sign (number digits) s.minus).1);
@@ -152,7 +167,7 @@ same_parts : (text unsigned whole after digits tail : List ℕ) (negative : Bool
     → (t : Spelling) → Spells text t → SameParts s.sign t.sign whole t.whole p.fraction t.fraction tail (exponent_text t.exponent)
 same_parts text unsigned whole after digits tail negative s d p t spelled =
     front_once text s.sign t.sign whole t.whole p.fraction t.fraction tail (exponent_text t.exponent)
-        (split_front text unsigned whole after digits tail negative s d p) (front_of text t spelled)
+    (split_front text unsigned whole after digits tail negative s d p) (front_of text t spelled)
 
 pub no_digits : (text unsigned whole after digits tail : List ℕ) (negative : Bool) → SignSplit text negative unsigned → DigitSplit unsigned whole after
     → PointSplit after digits tail → length whole + length digits ≡ 0 → ¬ IsDecimalText text

@@ -48,6 +48,6 @@ rest_moved n k j =
     let q = n / 10 ^ k in
     let r = n % 10 ^ k in
     let moved : n * 10 ^ j ≡ q * 10 ^ (k + j) + r * 10 ^ j =
-        ap (λ x. x * 10 ^ j) (sym (div-add-mod' n (10 ^ k))) ∙ add-mul (q * 10 ^ k) r (10 ^ j) ∙ ap (λ x. x + r * 10 ^ j) (ten_times q k j) in
+    ap (λ x. x * 10 ^ j) (sym (div-add-mod' n (10 ^ k))) ∙ add-mul (q * 10 ^ k) r (10 ^ j) ∙ ap (λ x. x + r * 10 ^ j) (ten_times q k j) in
     let below : r * 10 ^ j < 10 ^ (k + j) = subst (λ p. r * 10 ^ j < p) (sym (pow-add 10 k j)) (mul-lt-mul_of_pos_right (mod_below n (10 ^ k) (ten_pos k)) (ten_pos j)) in
     ap (λ x. x % 10 ^ (k + j)) moved ∙ mod-mul-add q (10 ^ (k + j)) (r * 10 ^ j) below

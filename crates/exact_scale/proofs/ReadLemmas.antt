@@ -72,7 +72,7 @@ parts_denote text whole after negative up down size behind n k p s least = recor
   spelled = p.spelled;
   least = subst (λ num. IsLeastDecimal (value_of p.spelling) num k) (flag_of p.spelling.sign negative n p.minus)
       (subst (λ value. IsLeastDecimal value (signed p.spelling.sign n) k) (sym (parts_value text whole after negative up down size behind p s))
-          (least_signed p.spelling.sign _ _ n k least.same least.least));
+      (least_signed p.spelling.sign _ _ n k least.same least.least));
 }
 
 flag_size : (negative : Bool) (n : ℕ) → unsigned_abs (under_flag negative n) ≡ n

@@ -29,12 +29,22 @@ pub cut : (k size : ℕ) → Cut size k
 cut zero size = record { short = size; places = 0; shorter = omega arith; same = sym (mul-one size); last = inl refl }
 cut (suc k) size = ⊎_elim
     (λ ends.
-        let less = cut k (size / 10) in
-        let more : k - less.places + 1 ≡ suc k - less.places = omega (arith, less.shorter) in
-        record { short = less.short; places = less.places; shorter = omega (arith, less.shorter); last = less.last;
-            same = sym (mul-one size) ∙ cut_zero size 0 ends ∙ ap (λ s. s * 10 ^ 1) less.same ∙ ten_times less.short (k - less.places) 1 ∙ ap (λ e. less.short * 10 ^ e) more })
-    (λ odd. record { short = size; places = suc k; shorter = omega arith; last = inr (omega (arith, odd));
-        same = let none : 0 ≡ suc k - suc k = omega arith in sym (mul-one size) ∙ ap (λ e. size * 10 ^ e) none })
+    let less = cut k (size / 10) in
+    let more : k - less.places + 1 ≡ suc k - less.places = omega (arith, less.shorter) in
+    record {
+      short = less.short;
+      places = less.places;
+      shorter = omega (arith, less.shorter);
+      last = less.last;
+      same = sym (mul-one size) ∙ cut_zero size 0 ends ∙ ap (λ s. s * 10 ^ 1) less.same ∙ ten_times less.short (k - less.places) 1 ∙ ap (λ e. less.short * 10 ^ e) more;
+    })
+    (λ odd. record {
+      short = size;
+      places = suc k;
+      shorter = omega arith;
+      last = inr (omega (arith, odd));
+      same = let none : 0 ≡ suc k - suc k = omega arith in sym (mul-one size) ∙ ap (λ e. size * 10 ^ e) none;
+    })
     (cases_eq (size % 10) 0)
 
 -- the digits after the point, where there are places
@@ -80,14 +90,16 @@ written_value n k short places shorter same =
     let s = written n short places in
     let digits = written_digits short places in
     let count : length (fraction_digits (fraction_of places (short % 10 ^ places))) ≡ places =
-        ap length (fraction_of-digits places (short % 10 ^ places)) ∙ length-last_digits places (short % 10 ^ places) in
+    ap length (fraction_of-digits places (short % 10 ^ places)) ∙ length-last_digits places (short % 10 ^ places) in
     let all : k - places + places ≡ k = omega arith in
     let value = plain_value s refl ∙ ap (λ d. decimal (signed (sign_of n) d) (length (fraction_digits s.fraction))) digits ∙ ap (decimal (signed (sign_of n) short)) count in
-    subst (λ v. IsSame v (decimal n k)) (sym value) (record { cross =
-        signed_times (sign_of n) short (10 ^ k)
-        ∙ ap (signed (sign_of n)) (ap (λ e. short * 10 ^ e) (sym all) ∙ sym (ten_times short (k - places) places) ∙ ap (λ m. m * 10 ^ places) (sym same))
-        ∙ sym (signed_times (sign_of n) (unsigned_abs n) (10 ^ places))
-        ∙ ap (λ z. z *ℤ pos (10 ^ places)) (signed-sign_of n) })
+    subst (λ v. IsSame v (decimal n k)) (sym value) (record {
+      cross =
+          signed_times (sign_of n) short (10 ^ k)
+          ∙ ap (signed (sign_of n)) (ap (λ e. short * 10 ^ e) (sym all) ∙ sym (ten_times short (k - places) places) ∙ ap (λ m. m * 10 ^ places) (sym same))
+          ∙ sym (signed_times (sign_of n) (unsigned_abs n) (10 ^ places))
+          ∙ ap (λ z. z *ℤ pos (10 ^ places)) (signed-sign_of n);
+    })
 
 -- ---- no plain text of the same fraction is shorter
 
@@ -105,8 +117,8 @@ cut_sizes digits count k size short places shorter same e =
     let all : places + (k - places) ≡ k = omega arith in
     let turned : k - places + count ≡ count + (k - places) = omega arith in
     cancel_ten (digits * 10 ^ places) (short * 10 ^ count) (k - places)
-        (ten_times digits places (k - places) ∙ ap (λ p. digits * 10 ^ p) all ∙ e ∙ ap (λ s. s * 10 ^ count) same
-        ∙ ten_times short (k - places) count ∙ ap (λ p. short * 10 ^ p) turned ∙ sym (ten_times short count (k - places)))
+    (ten_times digits places (k - places) ∙ ap (λ p. digits * 10 ^ p) all ∙ e ∙ ap (λ s. s * 10 ^ count) same
+    ∙ ten_times short (k - places) count ∙ ap (λ p. short * 10 ^ p) turned ∙ sym (ten_times short count (k - places)))
 
 enough_places : (short places count digits : ℕ) → (places ≡ 0) ⊎ (0 < short % 10) → digits * 10 ^ places ≡ short * 10 ^ count → places ≤ count
 enough_places short places count digits last e = ⊎_elim (λ none. omega arith)
@@ -219,4 +231,4 @@ same_fraction n m k j e =
     let b = shortest_text m j in
     let one = spelled_once (decimal_text n k) a.spelling b.spelling a.spelled (subst (λ t. Spells t b.spelling) (sym e) b.spelled) in
     IsSame-trans (decimal n k) (value_of a.spelling) (decimal m j) (ten_pos _)
-        (IsSame-sym _ _ a.denotes) (subst (λ s. IsSame (value_of s) (decimal m j)) (sym one) b.denotes)
+    (IsSame-sym _ _ a.denotes) (subst (λ s. IsSame (value_of s) (decimal m j)) (sym one) b.denotes)

@@ -33,10 +33,10 @@ capped_times : (short unit digit : ℕ) → 0 < unit → min (min short (2 ^ 62)
 capped_times short unit digit positive = ⊎_elim
     (λ small. let kept : min short (2 ^ 62) ≡ short = omega arith in ap (λ s. min (s * unit + digit) (2 ^ 62)) kept)
     (λ large.
-        let kept : min short (2 ^ 62) ≡ 2 ^ 62 = omega arith in
-        let low = le-mul_of_pos_right (2 ^ 62) positive in
-        let high = mul-le-mul_right unit large in
-        ap (λ s. min (s * unit + digit) (2 ^ 62)) kept ∙ omega arith)
+    let kept : min short (2 ^ 62) ≡ 2 ^ 62 = omega arith in
+    let low = le-mul_of_pos_right (2 ^ 62) positive in
+    let high = mul-le-mul_right unit large in
+    ap (λ s. min (s * unit + digit) (2 ^ 62)) kept ∙ omega arith)
     (cases_lt short (2 ^ 62))
 
 -- another digit than 0: the zeros stand before it now
@@ -62,10 +62,10 @@ pushed_far n size zeros digit positive small far s = record {
   same = one_more n s.short zeros digit s.same ∙ sym (mul-one (s.short * 10 ^ (zeros + 1) + digit));
   last = inr (subst (λ d. 0 < d) (sym (ends_in s.short zeros digit small)) positive);
   kept =
-    let some : 0 < s.short = ⊎_elim (λ none. absurd (omega (arith, none.1))) (λ odd. nonzero s.short odd) s.last in
-    let power = ten_le 19 (zeros + 1) (omega arith) in
-    let product = le-mul_of_pos_right (10 ^ (zeros + 1)) some in
-    large_min s.short (10 ^ (zeros + 1)) digit power product;
+      let some : 0 < s.short = ⊎_elim (λ none. absurd (omega (arith, none.1))) (λ odd. nonzero s.short odd) s.last in
+      let power = ten_le 19 (zeros + 1) (omega arith) in
+      let product = le-mul_of_pos_right (10 ^ (zeros + 1)) some in
+      large_min s.short (10 ^ (zeros + 1)) digit power product;
 }
 
 -- a zero behind another number than 0
@@ -106,13 +106,15 @@ moves_within size up down short rise fall moved some few places e narrow m =
     let low = le-mul_of_pos_right size (ten_pos up) in
     let whole : short ≡ size = omega (arith, m.kept, mul_comm size (10 ^ up)) in
     subst (λ d. IsLeastSize (short * 10 ^ rise) (10 ^ fall) moved d) downs
-        (subst (λ x. IsLeastSize (short * 10 ^ rise) (10 ^ fall) x (fall - rise))
-            (ap (λ s. s * 10 ^ (rise - fall)) whole ∙ ap (λ u. size * 10 ^ u) ups ∙ sym e)
-            (least_moved short rise fall (odd_short size up down short rise fall some m)))
+    (subst (λ x. IsLeastSize (short * 10 ^ rise) (10 ^ fall) x (fall - rise))
+    (ap (λ s. s * 10 ^ (rise - fall)) whole ∙ ap (λ u. size * 10 ^ u) ups ∙ sym e)
+    (least_moved short rise fall (odd_short size up down short rise fall some m)))
 
 too_wide : (size up down short rise fall : ℕ) → 0 < size → Moves size up down short rise fall → (30 < fall - rise) ⊎ (2 ^ 62 ≤ short * 10 ^ (rise - fall)) → LeastSizeTooWide (short * 10 ^ rise) (10 ^ fall)
 too_wide size up down short rise fall some m wide = record {
-  size = short * 10 ^ (rise - fall); places = fall - rise; wide = wide;
+  size = short * 10 ^ (rise - fall);
+  places = fall - rise;
+  wide = wide;
   least = least_moved short rise fall (odd_short size up down short rise fall some m);
 }
 
@@ -152,5 +154,5 @@ pub both_read : (whole fraction : List ℕ) (size zeros : ℕ)
     → IsSignificand ((0 * 10 ^ length whole + number whole) * 10 ^ length fraction + number fraction) size zeros → IsSignificand (number (whole ++ fraction)) size zeros
 both_read whole fraction size zeros s =
     let e : (0 * 10 ^ length whole + number whole) * 10 ^ length fraction + number fraction ≡ number (whole ++ fraction) =
-        ap (λ w. w * 10 ^ length fraction + number fraction) (ap (λ z. z + number whole) (zero-mul (10 ^ length whole)) ∙ zero-add (number whole)) ∙ sym (number-append whole fraction) in
+    ap (λ w. w * 10 ^ length fraction + number fraction) (ap (λ z. z + number whole) (zero-mul (10 ^ length whole)) ∙ zero-add (number whole)) ∙ sym (number-append whole fraction) in
     subst (λ m. IsSignificand m size zeros) e s

@@ -49,7 +49,7 @@ cancel_pos (pos a) (negsuc b) (suc d) positive e = absurd (pos-ne-negsuc (a * su
 cancel_pos (negsuc a) (pos b) (suc d) positive e = absurd (pos-ne-negsuc (b * suc d) (suc a * d + a) (sym e ∙ negative_product a d))
 cancel_pos (negsuc a) (negsuc b) (suc d) positive e =
     ap (λ n. neg_ℤ (pos n)) (eq_of_mul-eq-mul_right (suc d) positive (suc a) (suc b)
-        (sym (abs_negated (suc a * suc d)) ∙ ap unsigned_abs e ∙ abs_negated (suc b * suc d)))
+    (sym (abs_negated (suc a * suc d)) ∙ ap unsigned_abs e ∙ abs_negated (suc b * suc d)))
 
 -- two factors are one
 pub times_times : (z : ℤ) (a b : ℕ) → (z *ℤ pos a) *ℤ pos b ≡ z *ℤ pos (a * b)
@@ -70,9 +70,11 @@ pub IsSame-sym : (a b : Fraction) → IsSame a b → IsSame b a
 IsSame-sym a b h = record { cross = sym h.cross }
 
 pub IsSame-trans : (a b c : Fraction) → 0 < b.denominator → IsSame a b → IsSame b c → IsSame a c
-IsSame-trans a b c positive p q = record { cross = cancel_pos _ _ b.denominator positive
-    (times_swapped a.numerator c.denominator b.denominator
-    ∙ ap (λ z. z *ℤ pos c.denominator) p.cross
-    ∙ times_swapped b.numerator a.denominator c.denominator
-    ∙ ap (λ z. z *ℤ pos a.denominator) q.cross
-    ∙ times_swapped c.numerator b.denominator a.denominator) }
+IsSame-trans a b c positive p q = record {
+  cross = cancel_pos _ _ b.denominator positive
+      (times_swapped a.numerator c.denominator b.denominator
+      ∙ ap (λ z. z *ℤ pos c.denominator) p.cross
+      ∙ times_swapped b.numerator a.denominator c.denominator
+      ∙ ap (λ z. z *ℤ pos a.denominator) q.cross
+      ∙ times_swapped c.numerator b.denominator a.denominator);
+}

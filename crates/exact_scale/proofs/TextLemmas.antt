@@ -26,8 +26,8 @@ pub text_joined : (n : ℤ) (k size places whole rest : ℕ) → places ≤ k �
 text_joined n k size places whole rest shorter cut w r =
     let all : k ≡ places + (k - places) = omega arith in
     ap (λ s. minus_of n ++ s)
-        (ap (λ m. size_text m k) cut ∙ ap (λ p. size_text (size * 10 ^ (k - places)) p) all ∙ size_text-moved size places (k - places)
-        ∙ ap (λ a. decimal_digits a ++ point_text places (size % 10 ^ places)) (sym w) ∙ ap (λ b. decimal_digits whole ++ point_text places b) (sym r))
+    (ap (λ m. size_text m k) cut ∙ ap (λ p. size_text (size * 10 ^ (k - places)) p) all ∙ size_text-moved size places (k - places)
+    ∙ ap (λ a. decimal_digits a ++ point_text places (size % 10 ^ places)) (sym w) ∙ ap (λ b. decimal_digits whole ++ point_text places b) (sym r))
 
 -- the pieces, one after the other
 pub pieces_joined : (old first second third a b c : List ℕ) → first ≡ old ++ a → second ≡ first ++ b → third ≡ second ++ c → third ≡ old ++ (a ++ (b ++ c))
@@ -38,11 +38,11 @@ pieces_joined old first second third a b c p q r =
 pub same_text : (n m : ℤ) (k j : ℕ) → IsSame (decimal n k) (decimal m j) → decimal_text n k ≡ decimal_text m j
 same_text n m k j same =
     let sizes : unsigned_abs n * 10 ^ j ≡ unsigned_abs m * 10 ^ k =
-        sym (unsigned_abs-mul n (pos (10 ^ j))) ∙ ap unsigned_abs same.cross ∙ unsigned_abs-mul m (pos (10 ^ k)) in
+    sym (unsigned_abs-mul n (pos (10 ^ j))) ∙ ap unsigned_abs same.cross ∙ unsigned_abs-mul m (pos (10 ^ k)) in
     let turned : k + j ≡ j + k = omega arith in
     let minus : minus_of n ≡ minus_of m =
-        sym (minus_of-times n (10 ^ j) (ten_pos j)) ∙ ap minus_of same.cross ∙ minus_of-times m (10 ^ k) (ten_pos k) in
+    sym (minus_of-times n (10 ^ j) (ten_pos j)) ∙ ap minus_of same.cross ∙ minus_of-times m (10 ^ k) (ten_pos k) in
     ap (λ s. s ++ size_text (unsigned_abs n) k) minus
     ∙ ap (λ s. minus_of m ++ s)
-        (sym (size_text-moved (unsigned_abs n) k j) ∙ ap (λ s. size_text s (k + j)) sizes
-        ∙ ap (λ p. size_text (unsigned_abs m * 10 ^ k) p) turned ∙ size_text-moved (unsigned_abs m) j k)
+    (sym (size_text-moved (unsigned_abs n) k j) ∙ ap (λ s. size_text s (k + j)) sizes
+    ∙ ap (λ p. size_text (unsigned_abs m * 10 ^ k) p) turned ∙ size_text-moved (unsigned_abs m) j k)

@@ -31,7 +31,7 @@ pub without_last_zeros-push_other : (digits : List ℕ) (last : ℕ) → last �
 without_last_zeros-push_other [] last other = ap (λ b. cond (b && true) [] (last ∷ [])) (ne_eqb last 48 other)
 without_last_zeros-push_other (d ∷ digits) last other =
     ap (λ b. cond b [] (d ∷ without_last_zeros (digits ++ last ∷ [])))
-        (list_all-append is_zero (d ∷ digits) (last ∷ []) ∙ ap (λ b. list_all is_zero (d ∷ digits) && (b && true)) (ne_eqb last 48 other) ∙ and_false (list_all is_zero (d ∷ digits)))
+    (list_all-append is_zero (d ∷ digits) (last ∷ []) ∙ ap (λ b. list_all is_zero (d ∷ digits) && (b && true)) (ne_eqb last 48 other) ∙ and_false (list_all is_zero (d ∷ digits)))
     ∙ ap (λ rest. d ∷ rest) (without_last_zeros-push_other digits last other)
 
 -- where the last digit is not 0, all digits after the point are written

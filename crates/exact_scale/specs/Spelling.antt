@@ -95,7 +95,7 @@ lowered (Some e) = downward e.sign (number e.digits)
 abbrev pub value_of : Spelling → Fraction
 value_of s = record {
   numerator = signed s.sign (number (s.whole ++ fraction_digits s.fraction) * 10 ^ raised s.exponent);
-  denominator = 10 ^ (length (fraction_digits s.fraction) + lowered s.exponent)
+  denominator = 10 ^ (length (fraction_digits s.fraction) + lowered s.exponent);
 }
 
 -- the text denotes `n / 10^k`, with the least `k`

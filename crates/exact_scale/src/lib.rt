@@ -19,3 +19,6 @@ mod significand;
 pub use printing::Exact;
 pub use reading::{Decimal, DecimalFault};
 pub use scaling::{Scale, Wide};
+
+#[cfg(test)]
+mod tests;

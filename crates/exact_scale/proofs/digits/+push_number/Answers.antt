@@ -6,6 +6,6 @@ use Rattle.exact_scale.proofs.digits.+push_number.Goals.{then-number-ge10+in_ok-
 
 pub returns-clause-ok : goal.returns-clause-ok
 returns-clause-ok t c = elim c.if-number-ge10.branch [
-  then-number-ge10+in_ok-push_number w ↦ grind (arith, common_steps, decimal_digits_step c.args.number)
+  | then-number-ge10+in_ok-push_number w ↦ grind (arith, common_steps, decimal_digits_step c.args.number)
   | else-number-ge10 w ↦ grind (arith, common_steps, decimal_digits_small c.args.number)
 ]

@@ -15,7 +15,7 @@ returns-in-None-clause-none c =
 pub returns-in-Some-clause-some : goal.returns-in-Some-clause-some
 returns-in-Some-clause-some c =
     has_parts c.args.text.now _ _ _ _ _ _ _ _ c.split_sign-negative.ensures c.split_digits.ensures c.split_point.ensures c.in-Some.ensures.some
-        (elim c.else-is_empty.branch [
-          else-is_empty-via-then-is_empty+else-is_empty-2 w ↦ grind (arith, nat_tests)
-          | else-is_empty-via-else-is_empty w ↦ grind (arith, nat_tests)
-        ])
+    (elim c.else-is_empty.branch [
+      | else-is_empty-via-then-is_empty+else-is_empty-2 w ↦ grind (arith, nat_tests)
+      | else-is_empty-via-else-is_empty w ↦ grind (arith, nat_tests)
+    ])
