@@ -1,14 +1,13 @@
 -- What decimal digits spell, and how many there are.
-use Rattle.std.proofs.Common.{◌≡◌, ℕ, zero, suc, ◌+◌, ◌-◌, ◌*◌, ◌/◌, ◌%◌, ◌^◌, ◌<◌, ◌≤◌, List, [], ◌∷◌, ◌++◌, length, cond, eqb, map, replicate, get_or, sym, ap, ◌∙◌, subst, refl, ⊎_elim, arith, append_assoc, length-append, mul-le-mul_right, pow-suc, mod-lt, mul_assoc, add-mul, zero-mul, zero-add, add-zero, add_assoc, mod-eq_of_lt, add-one}
-use Rattle.std.specs.List.{AllByRecursion}
+use Rattle.std.proofs.Common.{◌≡◌, ℕ, zero, suc, ◌+◌, ◌-◌, ◌*◌, ◌/◌, ◌%◌, ◌^◌, ◌<◌, ◌≤◌, List, [], ◌∷◌, ◌++◌, length, cond, map, replicate, get_or, sym, ap, ◌∙◌, subst, refl, ⊎_elim, arith, append_assoc, length-append, mul-le-mul_right, pow-suc, zero-mul, zero-add, add-zero, mod-eq_of_lt, add-one}
 use Rattle.std.specs.Int.Digits.{digits_of}
-use Rattle.std.proofs.Math.Nat.{div-add-mod', div-eq_of_lt, div-lt_iff_lt-mul, pow-zero}
+use Rattle.std.proofs.Math.Nat.{div-add-mod', div-eq_of_lt, pow-zero}
 use Rattle.std.proofs.lemmas.Nat.{pow-add, le-div, mod_below}
 use Rattle.std.proofs.lemmas.Int.Digits.{digits_of_step, length-digits_of-le, first_digits_of}
 use Rattle.std.proofs.lemmas.Bool.{cases_lt}
 use Rattle.std.proofs.lemmas.List.{map-append, append-nil, length-map}
 use Rattle.std.proofs.lemmas.Grind.{replicate_next}
-use borrow.Author.Tests.{eq-eqb, ne_eqb}
+use borrow.Author.Tests.{ne_eqb}
 use Rattle.exact_scale.specs.Digits.{IsDigit, AllDigits, number, decimal_digits, last_digits}
 use Rattle.exact_scale.proofs.Powers.{ten_pos, ten_le}
 

@@ -1,11 +1,11 @@
 -- Where a text is cut, and what an exponent and the parts of a text are.
-use Rattle.std.proofs.Common.{◌≡◌, ℕ, zero, suc, ◌+◌, ◌-◌, ◌*◌, ◌^◌, ◌<◌, ◌≤◌, min, ◌⊎◌, inl, inr, Bool, true, false, List, [], ◌∷◌, ◌++◌, length, take, drop, get_or, Option, Some, None, sym, ap, ◌∙◌, subst, refl, ⊎_elim, arith, length-append, ℤ, pos, negsuc, neg_ℤ, cond}
+use Rattle.std.proofs.Common.{◌≡◌, ℕ, zero, suc, ◌+◌, ◌-◌, ◌*◌, ◌^◌, ◌<◌, ◌≤◌, min, ◌⊎◌, Bool, true, false, List, [], ◌∷◌, ◌++◌, length, take, drop, get_or, Option, Some, None, sym, ap, ◌∙◌, subst, refl, ⊎_elim, arith}
 use Rattle.std.specs.Prelude.{IfSome}
 use Rattle.std.proofs.Math.Seq.{drop-cons}
 use Rattle.std.proofs.lemmas.List.{take_more, take-append-drop, append-nil}
 use Rattle.exact_scale.specs.Digits.{IsDigit, AllDigits, number}
-use Rattle.exact_scale.specs.Parts.{NoDigitFirst, NoPointFirst, NoSignFirst, TakesSign, SignSplit, DigitSplit, PointSplit, ExponentRead, NoExponent, SignedRead, NoSigned, HasParts, is_minus, capped}
-use Rattle.exact_scale.specs.Spelling.{Sign, NoSign, Plus, Minus, sign_text, signed, Exponent, Spelling, fraction_digits, fraction_text, exponent_text, text_of, IsLawfulExponent, IsLawful, Spells, IsDecimalText, upward, downward, raised, lowered}
+use Rattle.exact_scale.specs.Parts.{NoDigitFirst, NoPointFirst, TakesSign, SignSplit, DigitSplit, PointSplit, ExponentRead, NoExponent, SignedRead, NoSigned, HasParts, is_minus, capped}
+use Rattle.exact_scale.specs.Spelling.{Sign, NoSign, Plus, Minus, sign_text, Spelling, fraction_digits, fraction_text, exponent_text, Spells, IsDecimalText, upward, downward}
 use Rattle.exact_scale.proofs.DigitLemmas.{AllDigits-append}
 use Rattle.exact_scale.proofs.SpellingLemmas.{Front, front_of, front_once, digits_once, sign_once, digits_take_sign, head_same, tail_same, SameParts}
 

@@ -1,5 +1,5 @@
 -- Powers of ten and products with them.
-use Rattle.std.proofs.Common.{◌≡◌, ℕ, suc, ◌+◌, ◌-◌, ◌*◌, ◌^◌, ◌/◌, ◌%◌, ◌<◌, ◌≤◌, sym, ap, ◌∙◌, subst, arith, pow-suc, mul_assoc, mul_comm, add-mul}
+use Rattle.std.proofs.Common.{◌≡◌, ℕ, suc, ◌+◌, ◌*◌, ◌^◌, ◌/◌, ◌%◌, ◌<◌, ◌≤◌, sym, ap, ◌∙◌, subst, arith, pow-suc, mul_assoc, mul_comm, add-mul}
 use Rattle.std.proofs.Math.Nat.{one-le-pow, pow-le-pow_right, eq_of_mul-eq-mul_right, mul-mod_left, div-add-mod', mod-mod_of_dvd, dvd-mul_left, mul-div-mul_right, mul-lt-mul_of_pos_right}
 use Rattle.std.specs.Int.{◌∣◌}
 use Rattle.std.proofs.lemmas.Nat.{pow-add, mod_below, mod-mul-add}

@@ -2,10 +2,10 @@
 use Rattle.std.proofs.Common.{◌≡◌, ℕ, ◌+◌, ◌-◌, ◌*◌, ◌^◌, ◌<◌, ◌≤◌, min, ◌⊎◌, inl, inr, Bool, true, false, cond, List, ◌++◌, length, Option, Some, None, sym, ap, ◌∙◌, subst, refl, ⊎_elim, arith, ℤ, pos, neg_ℤ}
 use Rattle.std.specs.Prelude.{unsigned_abs}
 use Rattle.exact_scale.specs.Digits.{number}
-use Rattle.exact_scale.specs.Fraction.{Fraction, IsLeastDecimal}
-use Rattle.exact_scale.specs.Limits.{IsNarrow, IsTooWide, DenotesTooWide}
+use Rattle.exact_scale.specs.Fraction.{IsLeastDecimal}
+use Rattle.exact_scale.specs.Limits.{IsNarrow, DenotesTooWide}
 use Rattle.exact_scale.specs.Parts.{HasParts, IsSignificand, IsLeastSize, LeastSizeTooWide, Moves, is_minus, capped}
-use Rattle.exact_scale.specs.Spelling.{Sign, NoSign, Plus, Minus, signed, Exponent, Spelling, fraction_digits, Spells, IsDecimalText, Denotes, upward, downward, raised, lowered, value_of}
+use Rattle.exact_scale.specs.Spelling.{Sign, NoSign, Plus, Minus, signed, Exponent, fraction_digits, IsDecimalText, Denotes, upward, downward, raised, lowered, value_of}
 use Rattle.exact_scale.proofs.Least.{least_signed, least_once}
 use Rattle.exact_scale.proofs.Powers.{ten_pos, ten_times}
 use Rattle.exact_scale.proofs.Signs.{abs_signed}

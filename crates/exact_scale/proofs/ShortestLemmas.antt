@@ -1,15 +1,15 @@
 -- The text that is written is the shortest.
 use Rattle.std.proofs.Common.{◌≡◌, ◌≢◌, ℕ, zero, suc, ◌+◌, ◌-◌, ◌*◌, ◌/◌, ◌%◌, ◌^◌, ◌<◌, ◌≤◌, ◌⊎◌, inl, inr, ◌↔◌, List, [], ◌∷◌, ◌++◌, length, Option, Some, None, sym, ap, ◌∙◌, subst, refl, ⊎_elim, arith, length-append, mul-one, add-zero, mul_comm, ℤ, pos, negsuc, ◌*ℤ◌, ◌<ℤ◌}
-use Rattle.std.specs.Prelude.{unsigned_abs, slice_index}
-use Rattle.std.proofs.Math.Nat.{div-add-mod', mul-div-mul_right, mul-add-div_right, div-eq_of_lt}
+use Rattle.std.specs.Prelude.{unsigned_abs}
+use Rattle.std.proofs.Math.Nat.{div-add-mod', mul-div-mul_right}
 use Rattle.std.proofs.lemmas.Int.{ints, unsigned_abs-mul}
 use Rattle.std.proofs.lemmas.Nat.{mod_below, div-mul-add}
 use Rattle.std.proofs.lemmas.Bool.{cases_eq}
 use Rattle.std.proofs.lemmas.List.{append-nil}
 use Rattle.exact_scale.specs.Digits.{AllDigits, number, decimal_digits, last_digits}
-use Rattle.exact_scale.specs.Fraction.{Fraction, IsSame, decimal}
-use Rattle.exact_scale.specs.Spelling.{Sign, NoSign, Plus, Minus, signed, sign_text, Exponent, Spelling, fraction_digits, fraction_text, exponent_text, text_of, IsLawful, Spells, raised, lowered, value_of}
-use Rattle.exact_scale.specs.ShortestText.{decimal_text, point_text, size_text, minus_of, IsPlain, IsShortestText}
+use Rattle.exact_scale.specs.Fraction.{IsSame, decimal_fraction}
+use Rattle.exact_scale.specs.Spelling.{Sign, NoSign, Plus, Minus, signed, sign_text, Spelling, fraction_digits, fraction_text, exponent_text, text_of, IsLawful, Spells, raised, lowered, value_of}
+use Rattle.exact_scale.specs.ShortestText.{decimal_text, point_text, minus_of, IsPlain, IsShortestText}
 use Rattle.exact_scale.proofs.DigitLemmas.{number-append, number_below, number_decimal_digits, decimal_digits_are_digits, decimal_digits_some, length-decimal_digits, leading_zero, last_digits_are_digits, length-last_digits, number_last_digits}
 use Rattle.exact_scale.proofs.Least.{least_places}
 use Rattle.exact_scale.proofs.Powers.{ten_pos, ten_times, cancel_ten, cut_zero}
@@ -77,23 +77,23 @@ written_digits short places =
     ∙ div-add-mod' short (10 ^ places)
 
 -- the value of parts without an exponent
-plain_value : (s : Spelling) → s.exponent ≡ None → value_of s ≡ decimal (signed s.sign (number (s.whole ++ fraction_digits s.fraction))) (length (fraction_digits s.fraction))
+plain_value : (s : Spelling) → s.exponent ≡ None → value_of s ≡ decimal_fraction (signed s.sign (number (s.whole ++ fraction_digits s.fraction))) (length (fraction_digits s.fraction))
 plain_value s none =
     let digits = number (s.whole ++ fraction_digits s.fraction) in
     let places = length (fraction_digits s.fraction) in
     ap (λ e. record { numerator = signed s.sign (digits * 10 ^ raised e); denominator = 10 ^ (places + lowered e) }) none
     ∙ ap (λ n. record { numerator = signed s.sign n; denominator = 10 ^ (places + 0) }) (mul-one digits)
-    ∙ ap (λ p. decimal (signed s.sign digits) p) (add-zero places)
+    ∙ ap (λ p. decimal_fraction (signed s.sign digits) p) (add-zero places)
 
-written_value : (n : ℤ) (k short places : ℕ) → places ≤ k → unsigned_abs n ≡ short * 10 ^ (k - places) → IsSame (value_of (written n short places)) (decimal n k)
+written_value : (n : ℤ) (k short places : ℕ) → places ≤ k → unsigned_abs n ≡ short * 10 ^ (k - places) → IsSame (value_of (written n short places)) (decimal_fraction n k)
 written_value n k short places shorter same =
     let s = written n short places in
     let digits = written_digits short places in
     let count : length (fraction_digits (fraction_of places (short % 10 ^ places))) ≡ places =
     ap length (fraction_of-digits places (short % 10 ^ places)) ∙ length-last_digits places (short % 10 ^ places) in
     let all : k - places + places ≡ k = omega arith in
-    let value = plain_value s refl ∙ ap (λ d. decimal (signed (sign_of n) d) (length (fraction_digits s.fraction))) digits ∙ ap (decimal (signed (sign_of n) short)) count in
-    subst (λ v. IsSame v (decimal n k)) (sym value) (record {
+    let value = plain_value s refl ∙ ap (λ d. decimal_fraction (signed (sign_of n) d) (length (fraction_digits s.fraction))) digits ∙ ap (decimal_fraction (signed (sign_of n) short)) count in
+    subst (λ v. IsSame v (decimal_fraction n k)) (sym value) (record {
       cross =
           signed_times (sign_of n) short (10 ^ k)
           ∙ ap (signed (sign_of n)) (ap (λ e. short * 10 ^ e) (sym all) ∙ sym (ten_times short (k - places) places) ∙ ap (λ m. m * 10 ^ places) (sym same))
@@ -104,12 +104,12 @@ written_value n k short places shorter same =
 -- ---- no plain text of the same fraction is shorter
 
 -- the same value in sizes
-same_sizes : (other : Spelling) (n : ℤ) (k : ℕ) → IsPlain other → IsSame (value_of other) (decimal n k)
+same_sizes : (other : Spelling) (n : ℤ) (k : ℕ) → IsPlain other → IsSame (value_of other) (decimal_fraction n k)
     → number (other.whole ++ fraction_digits other.fraction) * 10 ^ k ≡ unsigned_abs n * 10 ^ length (fraction_digits other.fraction)
 same_sizes other n k plain same =
     let digits = number (other.whole ++ fraction_digits other.fraction) in
     let places = length (fraction_digits other.fraction) in
-    let s = subst (λ v. IsSame v (decimal n k)) (plain_value other plain.no_exponent) same in
+    let s = subst (λ v. IsSame v (decimal_fraction n k)) (plain_value other plain.no_exponent) same in
     sym (abs_signed other.sign (digits * 10 ^ k)) ∙ ap unsigned_abs (sym (signed_times other.sign digits (10 ^ k))) ∙ ap unsigned_abs s.cross ∙ unsigned_abs-mul n (pos (10 ^ places))
 
 cut_sizes : (digits count k size short places : ℕ) → places ≤ k → size ≡ short * 10 ^ (k - places) → digits * 10 ^ k ≡ size * 10 ^ count → digits * 10 ^ places ≡ short * 10 ^ count
@@ -157,7 +157,7 @@ text_length s =
     ∙ ap (λ l. length (sign_text s.sign) + l) (length-append s.whole _ ∙ ap (λ l. length s.whole + l) (length-append (fraction_text s.fraction) (exponent_text s.exponent)))
 
 none_shorter : (n : ℤ) (k short places : ℕ) → places ≤ k → unsigned_abs n ≡ short * 10 ^ (k - places) → (places ≡ 0) ⊎ (0 < short % 10)
-    → (other : Spelling) → IsLawful other → IsPlain other → IsSame (value_of other) (decimal n k) → length (text_of (written n short places)) ≤ length (text_of other)
+    → (other : Spelling) → IsLawful other → IsPlain other → IsSame (value_of other) (decimal_fraction n k) → length (text_of (written n short places)) ≤ length (text_of other)
 none_shorter n k short places shorter same last other lawful plain denotes =
     let after = fraction_digits other.fraction in
     let sizes = cut_sizes (number (other.whole ++ after)) (length after) k (unsigned_abs n) short places shorter same (same_sizes other n k plain denotes) in
@@ -166,7 +166,7 @@ none_shorter n k short places shorter same last other lawful plain denotes =
     let room : short / 10 ^ places < 10 ^ length other.whole = subst (λ w. w < 10 ^ length other.whole) whole (number_below other.whole lawful.whole) in
     let digits = length-decimal_digits (short / 10 ^ places) (length other.whole) room plain.whole_digit in
     let point = point_needed other.fraction places (short % 10 ^ places) enough in
-    let s = subst (λ v. IsSame v (decimal n k)) (plain_value other plain.no_exponent) denotes in
+    let s = subst (λ v. IsSame v (decimal_fraction n k)) (plain_value other plain.no_exponent) denotes in
     let minus = minus_needed other.sign n (number (other.whole ++ after)) k (length after) s.cross in
     omega (arith, text_length (written n short places), text_length other, ap length (minus_of-sign_of n))
 
@@ -225,10 +225,10 @@ shortest_text n k =
     }
 
 -- one text is of one fraction
-pub same_fraction : (n m : ℤ) (k j : ℕ) → decimal_text n k ≡ decimal_text m j → IsSame (decimal n k) (decimal m j)
+pub same_fraction : (n m : ℤ) (k j : ℕ) → decimal_text n k ≡ decimal_text m j → IsSame (decimal_fraction n k) (decimal_fraction m j)
 same_fraction n m k j e =
     let a = shortest_text n k in
     let b = shortest_text m j in
     let one = spelled_once (decimal_text n k) a.spelling b.spelling a.spelled (subst (λ t. Spells t b.spelling) (sym e) b.spelled) in
-    IsSame-trans (decimal n k) (value_of a.spelling) (decimal m j) (ten_pos _)
-    (IsSame-sym _ _ a.denotes) (subst (λ s. IsSame (value_of s) (decimal m j)) (sym one) b.denotes)
+    IsSame-trans (decimal_fraction n k) (value_of a.spelling) (decimal_fraction m j) (ten_pos _)
+    (IsSame-sym _ _ a.denotes) (subst (λ s. IsSame (value_of s) (decimal_fraction m j)) (sym one) b.denotes)

@@ -1,9 +1,11 @@
 -- Numbers under a sign.
-use Rattle.std.proofs.Common.{◌≡◌, ℕ, zero, suc, ◌+◌, ◌*◌, ◌<◌, sym, ap, ◌∙◌, refl, arith, zero-mul, mul-suc, add-suc, mul_assoc, mul_comm, ℤ, pos, negsuc, neg_ℤ, ◌*ℤ◌}
+use Rattle.std.proofs.Common.{◌≡◌, ℕ, zero, suc, ◌+◌, ◌-◌, ◌*◌, ◌^◌, ◌<◌, ◌≤◌, sym, ap, ◌∙◌, refl, arith, zero-mul, mul-suc, add-suc, mul_assoc, mul_comm, ℤ, pos, negsuc, neg_ℤ, ◌*ℤ◌}
 use Rattle.std.specs.Prelude.{unsigned_abs}
 use Rattle.std.proofs.Math.Nat.{eq_of_mul-eq-mul_right}
 use lib.IntN.{negsuc-*ℤ-pos, pos-ne-negsuc}
-use Rattle.exact_scale.specs.Fraction.{Fraction, IsSame}
+use Rattle.std.proofs.lemmas.Nat.{pow-add}
+use Rattle.exact_scale.specs.Fraction.{Fraction, IsSame, decimal_fraction}
+use Rattle.exact_scale.specs.Limits.{numerator_over}
 use Rattle.exact_scale.specs.Spelling.{Sign, NoSign, Plus, Minus, signed, sign_text}
 use Rattle.exact_scale.specs.ShortestText.{minus_of}
 
@@ -78,3 +80,9 @@ IsSame-trans a b c positive p q = record {
       ∙ ap (λ z. z *ℤ pos a.denominator) q.cross
       ∙ times_swapped c.numerator b.denominator a.denominator);
 }
+
+-- a numerator over a greater power of ten is that of the same fraction
+pub numerator_same : (to : ℕ) (n : ℤ) (k : ℕ) → k ≤ to → IsSame (decimal_fraction (numerator_over to n k) to) (decimal_fraction n k)
+numerator_same to n k within =
+    let all : to - k + k ≡ to = omega arith in
+    record { cross = times_times n (10 ^ (to - k)) (10 ^ k) ∙ ap (λ p. n *ℤ pos p) (sym (pow-add 10 (to - k) k) ∙ ap (λ e. 10 ^ e) all) }

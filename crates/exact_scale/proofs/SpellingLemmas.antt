@@ -1,8 +1,8 @@
 -- A text is spelled in one way.
-use Rattle.std.proofs.Common.{◌≡◌, ℕ, zero, suc, ◌+◌, ◌<◌, ◌⊎◌, inl, inr, List, [], ◌∷◌, ◌++◌, length, Option, Some, None, sym, ap, ◌∙◌, subst, refl, ⊎_elim, arith}
-use Rattle.exact_scale.specs.Digits.{IsDigit, AllDigits}
+use Rattle.std.proofs.Common.{◌≡◌, ℕ, ◌+◌, ◌<◌, List, [], ◌∷◌, ◌++◌, length, Option, Some, None, sym, ap, ◌∙◌, subst, refl, ⊎_elim, arith}
+use Rattle.exact_scale.specs.Digits.{AllDigits}
 use Rattle.exact_scale.specs.Parts.{NoDigitFirst, NoPointFirst, NoSignFirst, TakesSign, TakesPoint}
-use Rattle.exact_scale.specs.Spelling.{Sign, NoSign, Plus, Minus, sign_text, Exponent, Spelling, fraction_digits, fraction_text, exponent_text, text_of, IsLawfulExponent, IsLawful, Spells}
+use Rattle.exact_scale.specs.Spelling.{Sign, NoSign, Plus, Minus, sign_text, Exponent, Spelling, fraction_digits, fraction_text, exponent_text, IsLawfulExponent, Spells}
 
 pub head_same : {x y : ℕ} {xs ys : List ℕ} → x ∷ xs ≡ y ∷ ys → x ≡ y
 head_same e = cc

@@ -1,9 +1,9 @@
 -- The text that the code writes, and what it denotes.
-use Rattle.std.proofs.Common.{◌≡◌, ◌≢◌, ℕ, zero, suc, ◌+◌, ◌-◌, ◌*◌, ◌/◌, ◌%◌, ◌^◌, ◌<◌, ◌≤◌, ◌⊎◌, inl, inr, List, [], ◌∷◌, ◌++◌, length, sym, ap, ◌∙◌, subst, refl, ⊎_elim, arith, append_assoc, length-append, ℤ, pos, negsuc, ◌*ℤ◌}
+use Rattle.std.proofs.Common.{◌≡◌, ℕ, zero, suc, ◌+◌, ◌-◌, ◌*◌, ◌/◌, ◌%◌, ◌^◌, ◌<◌, ◌≤◌, ◌⊎◌, inl, inr, List, ◌∷◌, ◌++◌, sym, ap, ◌∙◌, subst, refl, ⊎_elim, arith, append_assoc, ℤ, pos}
 use Rattle.std.specs.Prelude.{unsigned_abs}
 use Rattle.std.proofs.lemmas.Int.{unsigned_abs-mul}
 use Rattle.exact_scale.specs.Digits.{decimal_digits, last_digits}
-use Rattle.exact_scale.specs.Fraction.{IsSame, decimal}
+use Rattle.exact_scale.specs.Fraction.{IsSame, decimal_fraction}
 use Rattle.exact_scale.specs.ShortestText.{decimal_text, size_text, point_text, minus_of}
 use Rattle.exact_scale.proofs.Powers.{ten_pos, low_digit}
 use Rattle.exact_scale.proofs.Signs.{minus_of-times}
@@ -35,7 +35,7 @@ pieces_joined old first second third a b c p q r =
     r ∙ ap (λ l. l ++ c) (q ∙ ap (λ l. l ++ b) p ∙ append_assoc old a b) ∙ append_assoc old (a ++ b) c ∙ ap (λ l. old ++ l) (append_assoc a b c)
 
 -- one fraction has one text
-pub same_text : (n m : ℤ) (k j : ℕ) → IsSame (decimal n k) (decimal m j) → decimal_text n k ≡ decimal_text m j
+pub same_text : (n m : ℤ) (k j : ℕ) → IsSame (decimal_fraction n k) (decimal_fraction m j) → decimal_text n k ≡ decimal_text m j
 same_text n m k j same =
     let sizes : unsigned_abs n * 10 ^ j ≡ unsigned_abs m * 10 ^ k =
     sym (unsigned_abs-mul n (pos (10 ^ j))) ∙ ap unsigned_abs same.cross ∙ unsigned_abs-mul m (pos (10 ^ k)) in

@@ -3,7 +3,7 @@ use Rattle.std.proofs.Common.{◌≡◌, ◌≢◌, ℕ, zero, suc, ◌+◌, ◌
 use Rattle.std.specs.List.{list_all}
 use Rattle.std.proofs.Math.Nat.{mul-div_cancel, mul-mod_left}
 use Rattle.std.proofs.lemmas.List.Folds.{list_all-append}
-use borrow.Author.Tests.{eq-eqb, ne_eqb}
+use borrow.Author.Tests.{ne_eqb}
 use Rattle.exact_scale.specs.Digits.{decimal_digits, last_digits}
 use Rattle.exact_scale.specs.ShortestText.{without_last_zeros, point_text, size_text}
 use Rattle.exact_scale.proofs.Powers.{whole_moved, rest_moved}

@@ -1,5 +1,5 @@
 -- Fractions of whole numbers, and those over a power of ten.
-use Rattle.std.specs.Prelude.{◌≡◌, ℕ, ◌^◌, ◌≤◌, ℤ, pos, ◌*ℤ◌, ◌+ℤ◌}
+use Rattle.std.specs.Prelude.{◌≡◌, ℕ, ◌^◌, ◌≤◌, ℤ, pos, ◌*ℤ◌}
 
 -- a whole number over a positive one
 pub record Fraction : Type 0 where
@@ -11,10 +11,10 @@ pub record IsSame (a b : Fraction) : Type 0 where
   pub cross : a.numerator *ℤ pos b.denominator ≡ b.numerator *ℤ pos a.denominator
 
 -- `n / 10^k`
-abbrev pub decimal : ℤ → ℕ → Fraction
-decimal n k = record { numerator = n; denominator = 10 ^ k }
+abbrev pub decimal_fraction : ℤ → ℕ → Fraction
+decimal_fraction n k = record { numerator = n; denominator = 10 ^ k }
 
 -- the value is `n / 10^k`, and `k` is the least number that makes the value times `10^k` whole
 pub record IsLeastDecimal (value : Fraction) (n : ℤ) (k : ℕ) : Type 0 where
-  pub same : IsSame (decimal n k) value
-  pub least : (j : ℕ) (m : ℤ) → IsSame (decimal m j) value → k ≤ j
+  pub same : IsSame (decimal_fraction n k) value
+  pub least : (j : ℕ) (m : ℤ) → IsSame (decimal_fraction m j) value → k ≤ j

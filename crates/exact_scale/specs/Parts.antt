@@ -1,5 +1,5 @@
 -- What the reader's steps say to one another: where a text is cut, and numbers that are kept up to a bound.
-use Rattle.std.specs.Prelude.{◌≡◌, ℕ, ◌+◌, ◌*◌, ◌^◌, ◌-◌, ◌%◌, ◌<◌, ◌≤◌, min, ◌⊎◌, Bool, true, false, List, [], ◌∷◌, ◌++◌, length, Option, Some, None}
+use Rattle.std.specs.Prelude.{◌≡◌, ℕ, ◌*◌, ◌^◌, ◌-◌, ◌%◌, ◌<◌, ◌≤◌, min, ◌⊎◌, Bool, true, false, List, [], ◌∷◌, ◌++◌, length, Option, Some, None}
 use Rattle.exact_scale.specs.Digits.{IsDigit, AllDigits, number}
 use Rattle.exact_scale.specs.Spelling.{Sign, NoSign, Plus, Minus, sign_text, Exponent, Spelling, fraction_digits, fraction_text, exponent_text, IsLawfulExponent, Spells, upward, downward, raised, lowered}
 

@@ -1,9 +1,9 @@
 -- The shortest decimal text of a fraction over a power of ten.
-use Rattle.std.specs.Prelude.{◌≡◌, ◌≢◌, ℕ, zero, suc, ◌+◌, ◌/◌, ◌%◌, ◌^◌, ◌<◌, ◌≤◌, ◌<ℤ◌, ◌↔◌, ◌==◌, ◌&&◌, Bool, true, false, List, [], ◌∷◌, ◌++◌, length, slice_index, if◌then◌else◌, Option, Some, None, ℤ, pos, negsuc, unsigned_abs}
+use Rattle.std.specs.Prelude.{◌≡◌, ◌≢◌, ℕ, ◌/◌, ◌%◌, ◌^◌, ◌<◌, ◌≤◌, ◌<ℤ◌, ◌↔◌, ◌==◌, List, [], ◌∷◌, ◌++◌, length, slice_index, if◌then◌else◌, Some, None, ℤ, pos, negsuc, unsigned_abs}
 use Rattle.std.specs.List.{list_all}
 use Rattle.exact_scale.specs.Digits.{decimal_digits, last_digits}
-use Rattle.exact_scale.specs.Fraction.{IsSame, decimal}
-use Rattle.exact_scale.specs.Spelling.{Sign, NoSign, Plus, Minus, Spelling, fraction_digits, text_of, Spells, IsLawful, value_of}
+use Rattle.exact_scale.specs.Fraction.{IsSame, decimal_fraction}
+use Rattle.exact_scale.specs.Spelling.{Plus, Minus, Spelling, text_of, Spells, IsLawful, value_of}
 
 -- `-` where the number is negative
 abbrev pub minus_of : ℤ → List ℕ
@@ -37,9 +37,9 @@ pub record IsShortestText (text : List ℕ) (n : ℤ) (k : ℕ) : Type 0 where
   pub spelling : Spelling
   pub spelled : Spells text spelling
   pub plain : IsPlain spelling
-  pub denotes : IsSame (value_of spelling) (decimal n k)
+  pub denotes : IsSame (value_of spelling) (decimal_fraction n k)
   pub no_plus : spelling.sign ≢ Plus
   pub minus : (spelling.sign ≡ Minus) ↔ (n <ℤ pos 0)
   pub no_leading_zero : slice_index spelling.whole 0 ≡ 48 → length spelling.whole ≡ 1
   pub no_trailing_zero : (digits : List ℕ) → spelling.fraction ≡ Some digits → (front : List ℕ) × (last : ℕ) × (digits ≡ front ++ last ∷ []) × (last ≢ 48)
-  pub shortest : (other : Spelling) → IsLawful other → IsPlain other → IsSame (value_of other) (decimal n k) → length text ≤ length (text_of other)
+  pub shortest : (other : Spelling) → IsLawful other → IsPlain other → IsSame (value_of other) (decimal_fraction n k) → length text ≤ length (text_of other)

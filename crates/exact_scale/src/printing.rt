@@ -1,7 +1,7 @@
 //! The shortest decimal text of a fraction over a power of ten.
 ghost use Rattle.std.specs.Prelude.{◌≡◌, ◌%◌, ◌*◌, ◌^◌, ◌+◌, ◌-◌, ◌/◌, ◌≤◌, ◌<◌, ◌⊎◌, ◌++◌, ◌↔◌, ℕ, ℤ, OnOk, OnErr};
 ghost use Rattle.exact_scale.specs.Buffer.{Extends};
-ghost use Rattle.exact_scale.specs.Fraction.{IsSame, decimal};
+ghost use Rattle.exact_scale.specs.Fraction.{IsSame, decimal_fraction};
 ghost use Rattle.exact_scale.specs.ShortestText.{decimal_text, IsShortestText, minus_of, point_text};
 
 use crate::digits::{push_fraction, push_number};
@@ -20,8 +20,8 @@ pub struct Exact {
 }
 
 impl Exact {
-    /// Appends the shortest decimal: `-` where the value is negative, the whole part, then a point and the digits after
-    /// it where there are any.
+    /// Appends the shortest decimal: `-` where the value is negative, the whole part without leading zeros, then a point
+    /// and the digits after it without trailing zeros where there are any. After an error `out` is as before.
     pub fn append(&self, out: &mut Vec<u8>) -> Result<(), AllocError>
         ensures ok { OnOk result (out.new.items ≡ out.old.items ++ decimal_text self.now.num self.now.k) }
         ensures err { OnErr result (out.new.items ≡ out.old.items) }
@@ -31,7 +31,7 @@ impl Exact {
 
         // Fractions have the same text exactly where their cross products are equal.
         ensures same { (n : ℤ) (k : ℕ) → (decimal_text n k ≡ decimal_text self.now.num self.now.k)
-            ↔ IsSame (decimal n k) (decimal self.now.num self.now.k) }
+            ↔ IsSame (decimal_fraction n k) (decimal_fraction self.now.num self.now.k) }
     {
         let start = out.len();
         match self.write(out) {

@@ -1,9 +1,11 @@
 //! A factor and an offset over one power of ten, and their use on a raw value.
 ghost use Rattle.std.specs.Prelude.{◌≡◌, ◌^◌, ◌≤◌, ◌⊎◌, ◌↔◌, max, pos, ◌+ℤ◌, ◌*ℤ◌, unsigned_abs, IfOk, IsErr};
+ghost use Rattle.exact_scale.specs.Fraction.{IsSame, decimal_fraction};
 ghost use Rattle.exact_scale.specs.Limits.{IsNarrow, IsRawValue, numerator_over};
 
 use crate::printing::Exact;
 use crate::reading::Decimal;
+use thiserror::Error;
 
 /// A factor and an offset over one power of ten: `factor / 10^k` and `offset / 10^k`.
 #[derive(Clone, Copy, Debug, PartialEq, Eq)]
@@ -17,7 +19,8 @@ pub struct Scale {
 }
 
 /// A factor and an offset need a numerator of `2^62` or more over their common power of ten.
-#[derive(Clone, Copy, Debug, PartialEq, Eq)]
+#[derive(Clone, Copy, Debug, PartialEq, Eq, Error)]
+#[error("a scaling past the limits")]
 pub struct Wide;
 
 /// Numerators of a scale are below this in size.
@@ -33,6 +36,12 @@ impl Scale {
         ensures factor { IfOk result (λ scale. scale.factor ≡ numerator_over scale.k factor.num factor.k) }
         ensures offset { IfOk result (λ scale. scale.offset ≡ numerator_over scale.k offset.num offset.k) }
         ensures narrow { IfOk result (λ scale. IsNarrow scale.factor × IsNarrow scale.offset) }
+
+        // The factor and the offset are the fractions that they were.
+        ensures same_factor { IfOk result (λ scale. IsSame (decimal_fraction scale.factor scale.k)
+            (decimal_fraction factor.num factor.k)) }
+        ensures same_offset { IfOk result (λ scale. IsSame (decimal_fraction scale.offset scale.k)
+            (decimal_fraction offset.num offset.k)) }
 
         // Exactly where one of the numerators over the common power of ten is too wide.
         ensures wide { IsErr result ↔

@@ -226,6 +226,9 @@ fn writes_the_shortest_text(rt: HostRuntime) -> Result<(), Fail> {
     Ok(())
 }
 
+/// Values of this type may go to another thread.
+fn assert_crosses<T: Send + Sync>(_value: &T) {}
+
 /// Scales a raw value and compares the text.
 fn assert_scaled(
     rt: &(impl Abort + AllocGlobal),

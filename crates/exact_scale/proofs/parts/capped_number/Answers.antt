@@ -1,4 +1,4 @@
-use Rattle.std.proofs.Common.{◌≡◌, ◌+◌, ◌-◌, ◌*◌, get_or, take, ap, ◌∙◌, sym}
+use Rattle.std.proofs.Common.{◌+◌, ◌*◌, take, ap, ◌∙◌, sym}
 use Rattle.exact_scale.specs.Digits.{number}
 use Rattle.exact_scale.specs.Parts.{capped}
 use Rattle.exact_scale.proofs.PartsLemmas.{capped_more}

@@ -1,4 +1,4 @@
-use Rattle.std.proofs.Common.{sym, ap, ◌∙◌, arith}
+use Rattle.std.proofs.Common.{sym, arith}
 use Rattle.std.proofs.Math.Nat.{div-eq_of_lt, mod-eq_of_lt}
 use Rattle.exact_scale.proofs.Powers.{ten_pos, ten_le}
 use Rattle.exact_scale.proofs.printing.at_point.Goals as goal

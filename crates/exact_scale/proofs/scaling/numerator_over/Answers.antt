@@ -1,4 +1,4 @@
-use Rattle.std.proofs.Common.{◌^◌, ◌-◌, ◌≤◌, ◌<◌, arith}
+use Rattle.std.proofs.Common.{◌^◌, ◌-◌, ◌≤◌, arith}
 use Rattle.exact_scale.proofs.Powers.{at_most_30}
 use Rattle.exact_scale.proofs.scaling.numerator_over.Goals as goal
 

@@ -1,4 +1,4 @@
-use Rattle.std.proofs.Common.{◌≡◌, ◌+◌, ◌<◌, length, arith}
+use Rattle.std.proofs.Common.{arith}
 use Rattle.std.proofs.lemmas.Bool.Decides.{nat_tests}
 use Rattle.exact_scale.proofs.PartsLemmas.{has_parts, no_digits, bad_exponent}
 use Rattle.exact_scale.proofs.parts.Parts.split.Goals as goal

@@ -1,5 +1,4 @@
-use Rattle.std.proofs.Common.{◌≡◌, ap, ◌∙◌, sym, subst, rules, arith}
-use Rattle.exact_scale.proofs.ReadLemmas.{denotes_once, narrow_not_wide, denotes_text}
+use Rattle.exact_scale.proofs.ReadLemmas.{denotes_once, narrow_not_wide}
 use Rattle.exact_scale.proofs.reading.Decimal.read.Goals as goal
 
 pub returns-in-Some-narrowed-clause-only : goal.returns-in-Some-narrowed-clause-only

@@ -1,6 +1,5 @@
-use Rattle.std.proofs.Common.{ℕ, ◌+◌, ◌-◌, ◌*◌, ◌^◌, get_or, take, ap, ◌∙◌, sym, subst, arith}
+use Rattle.std.proofs.Common.{◌+◌, ◌*◌, ◌^◌, take, arith}
 use Rattle.exact_scale.specs.Digits.{number}
-use Rattle.exact_scale.specs.Parts.{IsSignificand}
 use Rattle.exact_scale.proofs.SignificandLemmas.{extended_more}
 use Rattle.exact_scale.proofs.significand.Significand.extended.Goals as goal
 

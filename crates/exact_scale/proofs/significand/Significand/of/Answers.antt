@@ -1,4 +1,3 @@
-use Rattle.exact_scale.specs.Digits.{number}
 use Rattle.exact_scale.proofs.SignificandLemmas.{none_yet, both_read}
 use Rattle.exact_scale.proofs.significand.Significand.of.Goals as goal
 

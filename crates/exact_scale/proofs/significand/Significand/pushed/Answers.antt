@@ -1,4 +1,4 @@
-use Rattle.std.proofs.Common.{◌≡◌, ◌+◌, ◌*◌, sym, ap, subst, arith}
+use Rattle.std.proofs.Common.{◌+◌, ◌*◌, sym, subst, arith}
 use Rattle.exact_scale.specs.Parts.{IsSignificand}
 use Rattle.exact_scale.proofs.SignificandLemmas.{pushed_zero}
 use Rattle.exact_scale.proofs.significand.Significand.pushed.Goals as goal
