@@ -32,8 +32,8 @@ pub(crate) struct Exponent {
 impl<'a> Parts<'a> {
     /// The parts of a text, if it is of the form.
     pub(crate) fn split(text: &'a [u8]) -> Option<Parts<'a>>
-        ensures some { IfSome result (λ parts. HasParts text.now parts.negative parts.whole.now parts.fraction.now
-            parts.exponent.raised parts.exponent.lowered) }
+        ensures some { IfSome result (λ parts. HasParts text.now parts.negative parts.whole.now
+            parts.fraction.now parts.exponent.raised parts.exponent.lowered) }
         ensures none { IfNone result (¬ IsDecimalText text.now) }
     {
         let (negative, unsigned) = split_sign(text);

@@ -20,8 +20,9 @@ pub struct Exact {
 }
 
 impl Exact {
-    /// Appends the shortest decimal: `-` where the value is negative, the whole part without leading zeros, then a point
-    /// and the digits after it without trailing zeros where there are any. After an error `out` is as before.
+    /// Appends the shortest decimal: `-` where the value is negative, the whole part without
+    /// leading zeros, then a point and the digits after it without trailing zeros where there are
+    /// any. After an error `out` is as before.
     pub fn append(&self, out: &mut Vec<u8>) -> Result<(), AllocError>
         ensures ok { OnOk result (out.new.items ≡ out.old.items ++ decimal_text self.now.num self.now.k) }
         ensures err { OnErr result (out.new.items ≡ out.old.items) }
@@ -95,7 +96,8 @@ fn at_point(size: u128, places: u32) -> (u128, u128)
     }
 }
 
-/// Appends a point and the digits of `rest / 10^places`, of which the last is not 0, or nothing where there is no place.
+/// Appends a point and the digits of `rest / 10^places`, of which the last is not 0, or nothing
+/// where there is no place.
 fn push_point(out: &mut Vec<u8>, rest: u128, places: u32) -> Result<(), AllocError>
     requires proper { rest < 10 ^ places }
     requires last { (places ≡ 0) ⊎ (0 < rest % 10) }

@@ -30,14 +30,16 @@ pub enum DecimalFault {
 }
 
 impl Decimal {
-    /// The decimal that a text denotes: an optional sign, digits with at most one point and at least one digit, and
-    /// optionally `e` or `E`, an optional sign and digits. `k` is the least number of places over which the value stands.
+    /// The decimal that a text denotes: an optional sign, digits with at most one point and at least
+    /// one digit, and optionally `e` or `E`, an optional sign and digits. `k` is the least number of
+    /// places over which the value stands.
     pub fn read(text: &[u8]) -> Result<Decimal, DecimalFault>
         ensures value { IfOk result (λ decimal. Denotes text.now decimal.num decimal.k) }
         ensures narrow { IfOk result (λ decimal. (decimal.k ≤ 30) × IsNarrow decimal.num) }
 
         // A text denotes one decimal.
-        ensures only { IfOk result (λ decimal. (n : ℤ) (k : ℕ) → Denotes text.now n k → (n ≡ decimal.num) × (k ≡ decimal.k)) }
+        ensures only { IfOk result (λ decimal. (n : ℤ) (k : ℕ) → Denotes text.now n k
+            → (n ≡ decimal.num) × (k ≡ decimal.k)) }
 
         // Exactly where each fault comes.
         ensures form { (result ≡ Err DecimalFault.Form) ↔ (¬ IsDecimalText text.now) }
@@ -59,11 +61,13 @@ fn narrowed(parts: &Parts<'_>) -> Option<Decimal>
     requires fraction { AllDigits parts.now.fraction.now }
     requires raised { parts.now.exponent.raised ≤ 2 ^ 100 }
     requires lowered { parts.now.exponent.lowered ≤ 2 ^ 100 }
-    ensures some { IfSome result (λ decimal. (text : List ℕ) → HasParts text parts.now.negative parts.now.whole.now
-        parts.now.fraction.now parts.now.exponent.raised parts.now.exponent.lowered → Denotes text decimal.num decimal.k) }
+    ensures some { IfSome result (λ decimal. (text : List ℕ) → HasParts text parts.now.negative
+        parts.now.whole.now parts.now.fraction.now parts.now.exponent.raised
+        parts.now.exponent.lowered → Denotes text decimal.num decimal.k) }
     ensures narrow { IfSome result (λ decimal. (decimal.k ≤ 30) × IsNarrow decimal.num) }
-    ensures none { IfNone result ((text : List ℕ) → HasParts text parts.now.negative parts.now.whole.now
-        parts.now.fraction.now parts.now.exponent.raised parts.now.exponent.lowered → DenotesTooWide text) }
+    ensures none { IfNone result ((text : List ℕ) → HasParts text parts.now.negative
+        parts.now.whole.now parts.now.fraction.now parts.now.exponent.raised
+        parts.now.exponent.lowered → DenotesTooWide text) }
 {
     let significand = Significand::of(parts.whole, parts.fraction);
     let up = significand.zeros + parts.exponent.raised;

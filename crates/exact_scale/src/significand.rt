@@ -1,4 +1,5 @@
-//! The digits of a decimal as a number without trailing zeros, kept up to a bound, and the count of those zeros.
+//! The digits of a decimal as a number without trailing zeros, kept up to a bound, and the count of
+//! those zeros.
 ghost use Rattle.std.specs.Prelude.{◌≡◌, ◌+◌, ◌*◌, ◌^◌, ◌≤◌, ◌<◌, ◌++◌, ℕ, IfSome, IfNone, length};
 ghost use Rattle.exact_scale.specs.Digits.{AllDigits, number};
 ghost use Rattle.exact_scale.specs.Parts.{IsSignificand, IsLeastSize, LeastSizeTooWide, Moves};
@@ -9,7 +10,8 @@ const NUMERATOR_LIMIT: u128 = 1 << 62;
 /// Decimals have at most this many places.
 const MOST_PLACES: u128 = 30;
 
-/// A number without its trailing zeros, or the limit where it is as great or greater, and how many zeros there are.
+/// A number without its trailing zeros, or the limit where it is as great or greater, and how many
+/// zeros there are.
 #[derive(Clone, Copy)]
 pub(crate) struct Significand {
     pub(crate) size: u64,
@@ -48,7 +50,8 @@ impl Significand {
     fn pushed(self, digit: u8) -> Significand
         requires digit { digit < 10 }
         requires zeros { self.zeros < 2 ^ 127 }
-        ensures number { (n : ℕ) → IsSignificand n self.size self.zeros → IsSignificand (n * 10 + digit) result.size result.zeros }
+        ensures number { (n : ℕ) → IsSignificand n self.size self.zeros
+            → IsSignificand (n * 10 + digit) result.size result.zeros }
         ensures zeros { result.zeros ≤ self.zeros + 1 }
     {
         if digit != 0 {
@@ -66,7 +69,8 @@ impl Significand {
         }
     }
 
-    /// The number without its zeros moved up or down, if it is within the limits: a numerator, and how many places it has.
+    /// The number without its zeros moved up or down, if it is within the limits: a numerator, and
+    /// how many places it has.
     pub(crate) fn moved(self, up: u128, down: u128) -> Option<(u64, u32)>
         ensures some { IfSome result (λ r. (short rise fall : ℕ) → Moves self.size up down short rise fall
             → IsLeastSize (short * 10 ^ rise) (10 ^ fall) r.0 r.1) }
