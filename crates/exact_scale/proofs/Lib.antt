@@ -1,0 +1,12 @@
+pub mod DigitLemmas
+pub mod Fits
+pub mod Least
+pub mod PartsLemmas
+pub mod Powers
+pub mod ReadLemmas
+pub mod ShortestLemmas
+pub mod SignificandLemmas
+pub mod Signs
+pub mod SpellingLemmas
+pub mod TextLemmas
+pub mod ZeroLemmas

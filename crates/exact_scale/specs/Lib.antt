@@ -1,0 +1,7 @@
+pub mod Buffer
+pub mod Digits
+pub mod Fraction
+pub mod Limits
+pub mod Parts
+pub mod ShortestText
+pub mod Spelling

@@ -1,0 +1,33 @@
+//! Decimal digits of a number, appended to a buffer.
+ghost use Rattle.std.specs.Prelude.{◌≡◌, ◌^◌, ◌+◌, ◌≤◌, ◌<◌, ◌*◌, ◌++◌, OnOk};
+ghost use Rattle.exact_scale.specs.Buffer.{Extends};
+ghost use Rattle.exact_scale.specs.Digits.{decimal_digits, last_digits};
+
+use std::alloc::AllocError;
+
+/// Appends a number's digits without leading zeros, and `0` for 0. Some of them may stand in
+/// `out` after an error.
+pub(crate) fn push_number(out: &mut Vec<u8>, number: u128) -> Result<(), AllocError>
+    ensures ok { OnOk result (out.new.items ≡ out.old.items ++ decimal_digits number) }
+    ensures grows { Extends out.old.items out.new.items }
+{
+    if number >= 10 {
+        push_number(out, number / 10)?;
+    }
+    out.push(b'0' + (number % 10) as u8)?;
+    Ok(())
+}
+
+/// Appends the digits after the point of `rest / 10^places`, with zeros in front where `rest` has fewer digits.
+pub(crate) fn push_fraction(out: &mut Vec<u8>, rest: u128, places: u32) -> Result<(), AllocError>
+    requires positive { 0 < rest }
+    requires proper { rest < 10 ^ places }
+    ensures ok { OnOk result (out.new.items ≡ out.old.items ++ last_digits places rest) }
+    ensures grows { Extends out.old.items out.new.items }
+{
+    let digits = rest.ilog10() + 1;
+    for _zero in digits..places {
+        out.push(b'0')?;
+    }
+    push_number(out, rest)
+}

@@ -1,0 +1,27 @@
+//! The tokens of DBC and LDF text, and the content of their strings.
+//!
+//! A text is words, numbers, strings and signs, with white space between them and, where the format has them,
+//! comments. Both grammar readers stand on this crate, and it stands on no other of the repository: they read the
+//! list that `tokens` gives, and take the content of a string from `string_of`.
+//!
+//! The theorem: `tokens` answers the list of longest tokens that the text is made of, or the first place at which
+//! there is none, exactly where the text has the one or the other, unless memory runs out; a text has at most one
+//! such list. What `string_of` makes is UTF-8.
+#![tactic(auto)]
+
+mod blank;
+mod bytes;
+mod content;
+mod fault;
+mod lexer;
+mod number;
+mod scan;
+mod string;
+#[cfg(test)]
+mod tests;
+mod token;
+
+pub use content::string_of;
+pub use fault::LexFault;
+pub use lexer::{reading_is_unique, tokens};
+pub use token::{Token, TokenKind};
