@@ -4,5 +4,5 @@ use Rattle.port_io.specs.Progress.{reader}
 use Rattle.port_io.specs.declared.memory_log.MemLog.{MemLog}
 
 -- a log as a reader over the bytes that it borrows
-abbrev pub log_reader : MemLog → MemoryReader
-log_reader log = reader log.content.now log.step log.fails.now log.progress
+abbrev pub reader_of : MemLog → MemoryReader
+reader_of log = reader log.content.now log.step log.fails.now log.progress

@@ -3,5 +3,5 @@ use Rattle.port_io.specs.Progress.{reader}
 use Rattle.port_io.specs.declared.memory_source.MemSource.{MemSource}
 
 -- a source as a reader over the bytes that it owns
-abbrev pub source_reader : MemSource → MemoryReader
-source_reader s = reader s.bytes.items s.step s.fails.items s.progress
+abbrev pub reader_of : MemSource → MemoryReader
+reader_of s = reader s.bytes.items s.step s.fails.items s.progress

@@ -1,5 +1,5 @@
 -- A library in memory: its files, which of its calls fail, and the file that is begun.
-use Rattle.std.specs.Prelude.{◌≡◌, ℕ, min, List, [], length, drop, Bool, true, false, if◌then◌else◌, ◌↔◌, ◌⊎◌, None, Some, Result, Ok, Err, is_ok, IsErr, OnOk, OnErr, IfOk, Contains}
+use Rattle.std.specs.Prelude.{◌≡◌, ℕ, min, List, [], length, drop, Bool, true, false, if◌then◌else◌, ◌↔◌, ◌⊎◌, Option, None, Some, Result, Ok, Err, is_ok, IsErr, OnOk, OnErr, IfOk, Contains}
 use Rattle.std.specs.Option.{option_map}
 use Rattle.port_io.specs.Causes.{raised}
 use Rattle.port_io.specs.Library.{strays_after}
@@ -20,9 +20,23 @@ pub record MemoryLibrary : Type 0 where
   pub more_faults : ℕ
   pub strays : ℕ
 
+-- the names and the bytes, which it tells
+abbrev pub told_files : MemoryLibrary → Option (List (List ℕ × List ℕ))
+told_files l = Some (entries_of l.files)
+
 -- no call was made yet
 abbrev pub unopened : List MemFile → List ℕ → MemoryLibrary
-unopened files fails = record { files = files; fails = fails; calls = 0; begun = false; rest = []; step = 1; open_faults = 0; more_faults = 0; strays = 0 }
+unopened files fails = record {
+  files = files;
+  fails = fails;
+  calls = 0;
+  begun = false;
+  rest = [];
+  step = 1;
+  open_faults = 0;
+  more_faults = 0;
+  strays = 0;
+}
 
 -- `begin` and `log` fail exactly at the numbers listed and for a name that is not there
 abbrev pub CannotOpen : MemoryLibrary → List ℕ → Type 0
@@ -30,7 +44,11 @@ CannotOpen l name = Contains l.fails l.calls ⊎ (file_named l.files name ≡ No
 
 -- the library after `begin` or `log` of that name, which did so or did not
 abbrev pub after_open : MemoryLibrary → List ℕ → Bool → MemoryLibrary
-after_open l name did = record l { calls = raised l.calls; open_faults = if did then l.open_faults else raised l.open_faults; strays = strays_after (Some (entries_of l.files)) name l.strays }
+after_open l name did = record l {
+  calls = raised l.calls;
+  open_faults = if did then l.open_faults else raised l.open_faults;
+  strays = strays_after (told_files l) name l.strays;
+}
 
 -- the library with that file begun
 abbrev pub with_begun : MemoryLibrary → MemFile → MemoryLibrary

@@ -16,7 +16,15 @@ pub record MemoryReader : Type 0 where
 
 -- no read was made yet
 abbrev pub unread : List ℕ → ℕ → List ℕ → MemoryReader
-unread bytes step fails = record { bytes = bytes; place = 0; step = step; fails = fails; calls = 0; faults = 0; ended = false }
+unread bytes step fails = record {
+  bytes = bytes;
+  place = 0;
+  step = step;
+  fails = fails;
+  calls = 0;
+  faults = 0;
+  ended = false;
+}
 
 -- the bytes that reads have not given
 abbrev pub bytes_left : MemoryReader → Option (List ℕ)
@@ -28,7 +36,11 @@ bytes_taken r = Some (take r.place r.bytes)
 
 -- the reader after a read with this answer
 abbrev pub after_read : {E : Type 0} → MemoryReader → Result ℕ E → MemoryReader
-after_read {E} r (Ok n) = record r { place = r.place + n; calls = raised r.calls; ended = ended_after {E = E} r.ended (Ok n) }
+after_read {E} r (Ok n) = record r {
+  place = r.place + n;
+  calls = raised r.calls;
+  ended = ended_after {E = E} r.ended (Ok n);
+}
 after_read r (Err _) = record r { calls = raised r.calls; faults = raised r.faults }
 
 -- A read fails exactly at the numbers listed. Else it gives as much as the step, the buffer and the bytes left allow.

@@ -14,11 +14,22 @@ pub record MemoryWriter : Type 0 where
 
 -- no write was made yet
 abbrev pub unwritten : ℕ → ℕ → List ℕ → MemoryWriter
-unwritten free step fails = record { written = []; free = free; step = step; fails = fails; calls = 0; faults = 0 }
+unwritten free step fails = record {
+  written = [];
+  free = free;
+  step = step;
+  fails = fails;
+  calls = 0;
+  faults = 0;
+}
 
 -- the writer after a write of this piece with this answer
 abbrev pub after_write : {E : Type 0} → MemoryWriter → Result ℕ E → List ℕ → MemoryWriter
-after_write w (Ok n) piece = record w { written = w.written ++ take n piece; free = w.free - n; calls = raised w.calls }
+after_write w (Ok n) piece = record w {
+  written = w.written ++ take n piece;
+  free = w.free - n;
+  calls = raised w.calls;
+}
 after_write w (Err _) piece = record w { calls = raised w.calls; faults = raised w.faults }
 
 -- A write fails exactly at the numbers listed and where there is no room. Else it takes as much as the step, the piece

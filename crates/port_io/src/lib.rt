@@ -1,15 +1,18 @@
-//! The outside of the signal server as traits: a source gives bytes, a sink takes them, a library opens files by name.
-//! It stands on nothing but std, and the crates that read logs, databases and wants and that write text stand on it.
+//! The outside of the signal server as traits: a source gives bytes, a sink takes them, a library
+//! opens files by name. It stands on std and `thiserror` alone, and the crates that read logs,
+//! databases and wants and that write text stand on it.
 //!
-//! Each trait says which bytes a call moved and counts the calls that failed, so that what a layer above answers can be
-//! traced to the outside: a call answers `Failed` only where its object's count rose. Objects in memory tell their bytes,
-//! and fail exactly at the calls that their maker lists; files and streams of the system tell none.
+//! Each trait says which bytes a call moved and counts the calls that failed, so that what a layer
+//! above answers can be traced to the outside: a call answers `Failed` only where its object's
+//! count rose. Objects in memory tell their bytes, and fail exactly at the calls that their maker
+//! lists; files and streams of the system tell none.
 //!
-//! The main theorem: `read_whole` answers the named file's bytes, or a refusal whose cause is the library's count of
-//! faults in the call that failed, or that more bytes than the limit were taken, and want of memory alone is free.
+//! The main theorem: `read_whole` answers Ok with the named file's bytes and no others, `Open` and
+//! `Read` only where the library's own count of such faults rose, and `Long` exactly where more
+//! than the limit was taken; want of memory alone is free.
 //!
-//! The connections of the server, their doors and the harbour that opens these join here: the other side that sources and
-//! sinks show is kept for them.
+//! Links, doors and harbours have their place here: the other side that sources and sinks show is
+//! kept for them.
 #![tactic(auto)]
 
 mod counts;

@@ -7,14 +7,17 @@ ghost use Rattle.port_io.specs.Library.{OpensFile, IsFreshLog, strays_after};
 
 use crate::{Failed, Source};
 
-/// A library of files. One file at a time is begun and read by the library itself; a log is read by a source of its own.
+/// A library of files. One file at a time is begun and read by the library itself; a log is read by
+/// a source of its own.
 pub trait Library {
     type Log: Source;
 
-    /// The names of the files and their bytes, or `None` where the library does not tell. No call changes them.
+    /// The names of the files and their bytes, or `None` where the library does not tell. No call
+    /// changes them.
     ghost files: { Self → Option (List (List ℕ × List ℕ)) };
 
-    /// The bytes of the begun file that `more` has not given yet, or `None` where the library does not tell.
+    /// The bytes of the begun file that `more` has not given yet, or `None` where the library does
+    /// not tell.
     ghost left: { Self → Option (List ℕ) };
 
     /// Whether a file is begun.
@@ -26,10 +29,12 @@ pub trait Library {
     /// How many calls of `more` have failed. At `2^64 - 1` the count stands still.
     ghost more_faults: { Self → ℕ };
 
-    /// How many calls of `begin` and `log` named a file that the told files do not have. At `2^64 - 1` it stands still.
+    /// How many calls of `begin` and `log` named a file that the told files do not have. At `2^64 -
+    /// 1` it stands still.
     ghost strays: { Self → ℕ };
 
-    /// Begins the file of that name, and gives up the one before. A name that is not there is a fault.
+    /// Begins the file of that name, and gives up the one before. A name that is not there is a
+    /// fault.
     fn begin(&mut self, name: &str) -> Result<(), Failed>
         ensures opened { OnOk result (OpensFile (files self.old) name.now (left self.new)) }
         ensures begun { begun self.new ≡ is_ok result }
@@ -37,7 +42,8 @@ pub trait Library {
 
         ensures cause { HasCause (open_faults self.old) (open_faults self.new) result }
         ensures more_faults { more_faults self.new ≡ more_faults self.old }
-        ensures strays { strays self.new ≡ strays_after (files self.old) name.now (strays self.old) };
+        ensures strays { strays self.new
+            ≡ strays_after (files self.old) name.now (strays self.old) };
 
     /// Reads some of the begun file's bytes left into the front of `buf`, as a source does.
     fn more(&mut self, buf: &mut [u8]) -> Result<usize, Failed>
@@ -54,18 +60,20 @@ pub trait Library {
         ensures open_faults { open_faults self.new ≡ open_faults self.old }
         ensures strays { strays self.new ≡ strays self.old };
 
-    /// Opens the file of that name as a source of its own. The begun file stays as it was. A name that is not there is a
-    /// fault.
+    /// Opens the file of that name as a source of its own. The begun file stays as it was. A name
+    /// that is not there is a fault.
     fn log(&mut self, name: &str) -> Result<Self::Log, Failed>
         ensures opened { IfOk result (λ log. IsFreshLog (files self.old) name.now
-            (Self.Log.left log) (Self.Log.taken log) (Self.Log.read_faults log) (Self.Log.ended log)) }
+            (Self.Log.left log) (Self.Log.taken log)
+            (Self.Log.read_faults log) (Self.Log.ended log)) }
         ensures left { left self.new ≡ left self.old }
         ensures begun { begun self.new ≡ begun self.old }
         ensures files { files self.new ≡ files self.old }
 
         ensures cause { HasCause (open_faults self.old) (open_faults self.new) result }
         ensures more_faults { more_faults self.new ≡ more_faults self.old }
-        ensures strays { strays self.new ≡ strays_after (files self.old) name.now (strays self.old) };
+        ensures strays { strays self.new
+            ≡ strays_after (files self.old) name.now (strays self.old) };
 
     /// Where the files are not told, no name is astray.
     ghost untold_strays: { (library : Self) → files library ≡ None → strays library ≡ 0 };

@@ -11,8 +11,8 @@ use crate::memory_calls::{copy_some, is_failing};
 use crate::memory_log::MemLog;
 use crate::{Failed, Library};
 
-/// A file in memory: at most `step` bytes of it are given a call, and a log over it fails at the reads whose numbers, from
-/// 0, are in `fails`.
+/// A file in memory: at most `step` bytes of it are given a call, and a log over it fails at the
+/// reads whose numbers, from 0, are in `fails`.
 #[derive(Drop)]
 pub struct MemFile {
     pub name: String,
@@ -50,13 +50,13 @@ pub struct MemLibrary<'a> {
 
 impl<'a> MemLibrary<'a> {
     ghost use Rattle.port_io.specs.MemFile.{file_named};
-    ghost use Rattle.port_io.specs.MemLibrary.{library_state};
+    ghost use Rattle.port_io.specs.MemLibrary.{state_of};
     ghost use Rattle.port_io.specs.MemoryLibrary.{unopened, after_open, CannotOpen};
 
-    /// A library of these files. It fails at the calls of `begin`, `more` and `log`, counted together, whose numbers, from
-    /// 0, are in `fails`.
+    /// A library of these files. It fails at the calls of `begin`, `more` and `log`, counted
+    /// together, whose numbers, from 0, are in `fails`.
     pub fn new(files: &'a [MemFile], fails: Vec<u64>) -> MemLibrary<'a>
-        ensures { library_state result ≡ unopened files.now fails.items }
+        ensures { state_of result ≡ unopened files.now fails.items }
     {
         MemLibrary {
             files,
@@ -73,9 +73,11 @@ impl<'a> MemLibrary<'a> {
 
     /// One call that opens the file of that name, where it is there and this call does not fail.
     fn open_file(&mut self, name: &str) -> Option<&'a MemFile>
-        ensures fails { IsNone result ↔ CannotOpen (library_state self.old) name.now }
-        ensures file { IfSome result (λ file. file_named (library_state self.old).files name.now ≡ Some file.now) }
-        ensures after { library_state self.new ≡ after_open (library_state self.old) name.now (is_some result) }
+        ensures fails { IsNone result ↔ CannotOpen (state_of self.old) name.now }
+        ensures file { IfSome result (λ file.
+            file_named (state_of self.old).files name.now ≡ Some file.now) }
+        ensures after { state_of self.new
+            ≡ after_open (state_of self.old) name.now (is_some result) }
     {
         let failing = is_failing(&mut self.calls, &self.fails);
         match MemFile::find(self.files, name) {
@@ -96,38 +98,38 @@ impl<'a> MemLibrary<'a> {
 impl<'a> Library for MemLibrary<'a> {
     type Log = MemLog<'a>;
 
-    ghost use Rattle.port_io.specs.MemLibrary.{library_state};
+    ghost use Rattle.port_io.specs.MemLibrary.{state_of};
     ghost use Rattle.std.proofs.Common.{sym};
     ghost use Rattle.std.proofs.lemmas.Option.{none-some};
-    ghost use Rattle.port_io.specs.MemFile.{entries_of};
-    ghost use Rattle.port_io.specs.MemLog.{log_reader};
+    ghost use Rattle.port_io.specs.MemLog.{reader_of};
     ghost use Rattle.port_io.specs.MemoryReader.{bytes_left, bytes_taken};
-    ghost use Rattle.port_io.specs.MemoryLibrary.{BeginsMemory, GivesMemory, OpensMemory};
+    ghost use Rattle.port_io.specs.MemoryLibrary.{told_files, BeginsMemory, GivesMemory, OpensMemory};
 
-    ghost files = { λ l. Some (entries_of (library_state l).files) };
+    ghost files = { λ l. told_files (state_of l) };
 
-    ghost left = { λ l. Some (library_state l).rest };
+    ghost left = { λ l. Some (state_of l).rest };
 
-    ghost begun = { λ l. (library_state l).begun };
+    ghost begun = { λ l. (state_of l).begun };
 
-    ghost open_faults = { λ l. (library_state l).open_faults };
+    ghost open_faults = { λ l. (state_of l).open_faults };
 
-    ghost more_faults = { λ l. (library_state l).more_faults };
+    ghost more_faults = { λ l. (state_of l).more_faults };
 
-    ghost strays = { λ l. (library_state l).strays };
+    ghost strays = { λ l. (state_of l).strays };
 
     ghost untold_strays = { λ l untold. absurd (none-some _ (sym untold)) };
 
     fn begin(&mut self, name: &str) -> Result<(), Failed>
-        ensures opened { OnOk result (OpensFile (Some (entries_of (library_state self.old).files)) name.now
-            (Some (library_state self.new).rest)) }
-        ensures begun { (library_state self.new).begun ≡ is_ok result }
-        ensures files { Some (entries_of (library_state self.new).files) ≡ Some (entries_of (library_state self.old).files) }
-        ensures cause { HasCause (library_state self.old).open_faults (library_state self.new).open_faults result }
-        ensures more_faults { (library_state self.new).more_faults ≡ (library_state self.old).more_faults }
-        ensures strays { (library_state self.new).strays ≡ strays_after
-            (Some (entries_of (library_state self.old).files)) name.now (library_state self.old).strays }
-        ensures exact { BeginsMemory (library_state self.old) (library_state self.new) name.now result }
+        ensures opened { OnOk result
+            (OpensFile (told_files (state_of self.old)) name.now (Some (state_of self.new).rest)) }
+        ensures begun { (state_of self.new).begun ≡ is_ok result }
+        ensures files { told_files (state_of self.new) ≡ told_files (state_of self.old) }
+        ensures cause { HasCause (state_of self.old).open_faults (state_of self.new).open_faults
+            result }
+        ensures more_faults { (state_of self.new).more_faults ≡ (state_of self.old).more_faults }
+        ensures strays { (state_of self.new).strays
+            ≡ strays_after (told_files (state_of self.old)) name.now (state_of self.old).strays }
+        ensures exact { BeginsMemory (state_of self.old) (state_of self.new) name.now result }
     {
         self.begun = false;
         let Some(file) = self.open_file(name) else {
@@ -140,18 +142,20 @@ impl<'a> Library for MemLibrary<'a> {
     }
 
     fn more(&mut self, buf: &mut [u8]) -> Result<usize, Failed>
-        requires begun { IsTrue (library_state self.old).begun }
+        requires begun { IsTrue (state_of self.old).begun }
         requires room { 0 < length buf.old }
 
         ensures bound { ReadsAtMost result buf.new }
-        ensures left { ReadsFrom (Some (library_state self.old).rest) (Some (library_state self.new).rest) result buf.new }
-        ensures end { SaysEnd (Some (library_state self.old).rest) result }
-        ensures begun { (library_state self.new).begun ≡ (library_state self.old).begun }
-        ensures files { Some (entries_of (library_state self.new).files) ≡ Some (entries_of (library_state self.old).files) }
-        ensures cause { HasCause (library_state self.old).more_faults (library_state self.new).more_faults result }
-        ensures open_faults { (library_state self.new).open_faults ≡ (library_state self.old).open_faults }
-        ensures strays { (library_state self.new).strays ≡ (library_state self.old).strays }
-        ensures exact { GivesMemory (library_state self.old) (library_state self.new) result buf.new }
+        ensures left { ReadsFrom (Some (state_of self.old).rest) (Some (state_of self.new).rest)
+            result buf.new }
+        ensures end { SaysEnd (Some (state_of self.old).rest) result }
+        ensures begun { (state_of self.new).begun ≡ (state_of self.old).begun }
+        ensures files { told_files (state_of self.new) ≡ told_files (state_of self.old) }
+        ensures cause { HasCause (state_of self.old).more_faults (state_of self.new).more_faults
+            result }
+        ensures open_faults { (state_of self.new).open_faults ≡ (state_of self.old).open_faults }
+        ensures strays { (state_of self.new).strays ≡ (state_of self.old).strays }
+        ensures exact { GivesMemory (state_of self.old) (state_of self.new) result buf.new }
     {
         if is_failing(&mut self.calls, &self.fails) {
             raise(&mut self.more_faults);
@@ -163,16 +167,19 @@ impl<'a> Library for MemLibrary<'a> {
     }
 
     fn log(&mut self, name: &str) -> Result<MemLog<'a>, Failed>
-        ensures opened { IfOk result (λ log. IsFreshLog (Some (entries_of (library_state self.old).files)) name.now
-            (bytes_left (log_reader log)) (bytes_taken (log_reader log)) (log_reader log).faults (log_reader log).ended) }
-        ensures left { Some (library_state self.new).rest ≡ Some (library_state self.old).rest }
-        ensures begun { (library_state self.new).begun ≡ (library_state self.old).begun }
-        ensures files { Some (entries_of (library_state self.new).files) ≡ Some (entries_of (library_state self.old).files) }
-        ensures cause { HasCause (library_state self.old).open_faults (library_state self.new).open_faults result }
-        ensures more_faults { (library_state self.new).more_faults ≡ (library_state self.old).more_faults }
-        ensures strays { (library_state self.new).strays ≡ strays_after
-            (Some (entries_of (library_state self.old).files)) name.now (library_state self.old).strays }
-        ensures exact { OpensMemory log_reader (library_state self.old) (library_state self.new) name.now result }
+        ensures opened { IfOk result (λ log. IsFreshLog (told_files (state_of self.old)) name.now
+            (bytes_left (reader_of log)) (bytes_taken (reader_of log))
+            (reader_of log).faults (reader_of log).ended) }
+        ensures left { Some (state_of self.new).rest ≡ Some (state_of self.old).rest }
+        ensures begun { (state_of self.new).begun ≡ (state_of self.old).begun }
+        ensures files { told_files (state_of self.new) ≡ told_files (state_of self.old) }
+        ensures cause { HasCause (state_of self.old).open_faults (state_of self.new).open_faults
+            result }
+        ensures more_faults { (state_of self.new).more_faults ≡ (state_of self.old).more_faults }
+        ensures strays { (state_of self.new).strays
+            ≡ strays_after (told_files (state_of self.old)) name.now (state_of self.old).strays }
+        ensures exact { OpensMemory reader_of (state_of self.old) (state_of self.new)
+            name.now result }
     {
         match self.open_file(name) {
             Some(file) => Ok(MemLog::new(file)),

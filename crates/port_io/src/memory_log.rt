@@ -22,12 +22,12 @@ pub struct MemLog<'a> {
 }
 
 impl<'a> MemLog<'a> {
-    ghost use Rattle.port_io.specs.MemLog.{log_reader};
+    ghost use Rattle.port_io.specs.MemLog.{reader_of};
     ghost use Rattle.port_io.specs.MemFile.{unread_file};
 
     /// A log over this file, of which nothing was read.
     pub(crate) fn new(file: &'a MemFile) -> MemLog<'a>
-        ensures { log_reader result ≡ unread_file file.now }
+        ensures { reader_of result ≡ unread_file file.now }
     {
         MemLog {
             content: &file.content,
@@ -39,15 +39,15 @@ impl<'a> MemLog<'a> {
 }
 
 impl Source for MemLog<'_> {
-    ghost use Rattle.port_io.specs.MemLog.{log_reader};
+    ghost use Rattle.port_io.specs.MemLog.{reader_of};
 
-    ghost left = { λ s. bytes_left (log_reader s) };
+    ghost left = { λ s. bytes_left (reader_of s) };
 
-    ghost taken = { λ s. bytes_taken (log_reader s) };
+    ghost taken = { λ s. bytes_taken (reader_of s) };
 
-    ghost read_faults = { λ s. (log_reader s).faults };
+    ghost read_faults = { λ s. (reader_of s).faults };
 
-    ghost ended = { λ s. (log_reader s).ended };
+    ghost ended = { λ s. (reader_of s).ended };
 
     ghost other = { λ _. no_other_side };
 
@@ -57,12 +57,14 @@ impl Source for MemLog<'_> {
         requires { 0 < length buf.old }
 
         ensures bound { ReadsAtMost result buf.new }
-        ensures left { ReadsFrom (bytes_left (log_reader self.old)) (bytes_left (log_reader self.new)) result buf.new }
-        ensures end { SaysEnd (bytes_left (log_reader self.old)) result }
-        ensures taken { Takes (bytes_taken (log_reader self.old)) (bytes_taken (log_reader self.new)) result buf.new }
-        ensures ended { (log_reader self.new).ended ≡ ended_after (log_reader self.old).ended result }
-        ensures cause { HasCause (log_reader self.old).faults (log_reader self.new).faults result }
-        ensures exact { ReadsMemory (log_reader self.old) (log_reader self.new) result buf.new }
+        ensures left { ReadsFrom (bytes_left (reader_of self.old))
+            (bytes_left (reader_of self.new)) result buf.new }
+        ensures end { SaysEnd (bytes_left (reader_of self.old)) result }
+        ensures taken { Takes (bytes_taken (reader_of self.old))
+            (bytes_taken (reader_of self.new)) result buf.new }
+        ensures ended { (reader_of self.new).ended ≡ ended_after (reader_of self.old).ended result }
+        ensures cause { HasCause (reader_of self.old).faults (reader_of self.new).faults result }
+        ensures exact { ReadsMemory (reader_of self.old) (reader_of self.new) result buf.new }
     {
         self.progress.read(self.content, self.step, self.fails, buf)
     }

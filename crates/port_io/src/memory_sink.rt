@@ -23,13 +23,14 @@ pub struct MemSink {
 }
 
 impl MemSink {
-    ghost use Rattle.port_io.specs.MemSink.{sink_writer};
+    ghost use Rattle.port_io.specs.MemSink.{writer_of};
 
-    /// A sink that writes over the bytes of `room` from the first on, at most `step` a write. It fails at the writes whose
-    /// numbers, from 0, are in `fails`, and where no byte of the room is left.
+    /// A sink that writes over the bytes of `room` from the first on, at most `step` a write. It
+    /// fails at the writes whose numbers, from 0, are in `fails`, and where no byte of the room is
+    /// left.
     pub fn new(room: Vec<u8>, step: usize, fails: Vec<u64>) -> MemSink
         requires { 1 ≤ step }
-        ensures { sink_writer result ≡ unwritten (length room.items) step fails.items }
+        ensures { writer_of result ≡ unwritten (length room.items) step fails.items }
     {
         MemSink {
             room,
@@ -43,18 +44,18 @@ impl MemSink {
 
     /// The bytes written so far.
     pub fn bytes(&self) -> &[u8]
-        ensures { result.now ≡ (sink_writer self.now).written }
+        ensures { result.now ≡ (writer_of self.now).written }
     {
         &self.room[..self.place]
     }
 }
 
 impl Sink for MemSink {
-    ghost use Rattle.port_io.specs.MemSink.{sink_writer};
+    ghost use Rattle.port_io.specs.MemSink.{writer_of};
 
-    ghost written = { λ s. Some (sink_writer s).written };
+    ghost written = { λ s. Some (writer_of s).written };
 
-    ghost write_faults = { λ s. (sink_writer s).faults };
+    ghost write_faults = { λ s. (writer_of s).faults };
 
     ghost other = { λ _. no_other_side };
 
@@ -62,9 +63,10 @@ impl Sink for MemSink {
         requires { 0 < length piece.now }
 
         ensures count { TakesSome result piece.now }
-        ensures written { Writes (Some (sink_writer self.old).written) (Some (sink_writer self.new).written) result piece.now }
-        ensures cause { HasCause (sink_writer self.old).faults (sink_writer self.new).faults result }
-        ensures exact { WritesMemory (sink_writer self.old) (sink_writer self.new) result piece.now }
+        ensures written { Writes (Some (writer_of self.old).written)
+            (Some (writer_of self.new).written) result piece.now }
+        ensures cause { HasCause (writer_of self.old).faults (writer_of self.new).faults result }
+        ensures exact { WritesMemory (writer_of self.old) (writer_of self.new) result piece.now }
     {
         let failing = is_failing(&mut self.calls, &self.fails);
         if failing || self.place == self.room.len() {

@@ -21,12 +21,13 @@ pub struct MemSource {
 }
 
 impl MemSource {
-    ghost use Rattle.port_io.specs.MemSource.{source_reader};
+    ghost use Rattle.port_io.specs.MemSource.{reader_of};
 
-    /// A source that gives these bytes, at most `step` a read, and fails at the reads whose numbers, from 0, are in `fails`.
+    /// A source that gives these bytes, at most `step` a read, and fails at the reads whose
+    /// numbers, from 0, are in `fails`.
     pub fn new(bytes: Vec<u8>, step: usize, fails: Vec<u64>) -> MemSource
         requires { 1 ≤ step }
-        ensures { source_reader result ≡ unread bytes.items step fails.items }
+        ensures { reader_of result ≡ unread bytes.items step fails.items }
     {
         MemSource {
             bytes,
@@ -38,15 +39,15 @@ impl MemSource {
 }
 
 impl Source for MemSource {
-    ghost use Rattle.port_io.specs.MemSource.{source_reader};
+    ghost use Rattle.port_io.specs.MemSource.{reader_of};
 
-    ghost left = { λ s. bytes_left (source_reader s) };
+    ghost left = { λ s. bytes_left (reader_of s) };
 
-    ghost taken = { λ s. bytes_taken (source_reader s) };
+    ghost taken = { λ s. bytes_taken (reader_of s) };
 
-    ghost read_faults = { λ s. (source_reader s).faults };
+    ghost read_faults = { λ s. (reader_of s).faults };
 
-    ghost ended = { λ s. (source_reader s).ended };
+    ghost ended = { λ s. (reader_of s).ended };
 
     ghost other = { λ _. no_other_side };
 
@@ -56,12 +57,14 @@ impl Source for MemSource {
         requires { 0 < length buf.old }
 
         ensures bound { ReadsAtMost result buf.new }
-        ensures left { ReadsFrom (bytes_left (source_reader self.old)) (bytes_left (source_reader self.new)) result buf.new }
-        ensures end { SaysEnd (bytes_left (source_reader self.old)) result }
-        ensures taken { Takes (bytes_taken (source_reader self.old)) (bytes_taken (source_reader self.new)) result buf.new }
-        ensures ended { (source_reader self.new).ended ≡ ended_after (source_reader self.old).ended result }
-        ensures cause { HasCause (source_reader self.old).faults (source_reader self.new).faults result }
-        ensures exact { ReadsMemory (source_reader self.old) (source_reader self.new) result buf.new }
+        ensures left { ReadsFrom (bytes_left (reader_of self.old))
+            (bytes_left (reader_of self.new)) result buf.new }
+        ensures end { SaysEnd (bytes_left (reader_of self.old)) result }
+        ensures taken { Takes (bytes_taken (reader_of self.old))
+            (bytes_taken (reader_of self.new)) result buf.new }
+        ensures ended { (reader_of self.new).ended ≡ ended_after (reader_of self.old).ended result }
+        ensures cause { HasCause (reader_of self.old).faults (reader_of self.new).faults result }
+        ensures exact { ReadsMemory (reader_of self.old) (reader_of self.new) result buf.new }
     {
         self.progress.read(&self.bytes, self.step, &self.fails, buf)
     }

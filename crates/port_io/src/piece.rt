@@ -5,7 +5,8 @@ ghost use Rattle.port_io.specs.Sink.{WritesPiece};
 
 use crate::{Failed, Sink};
 
-/// Writes all of `piece`, which may be empty. At `Failed` a part of it was written, and the sink's count rose.
+/// Writes all of `piece`, which may be empty. At `Failed` a part of it was written, and the sink's
+/// count rose.
 pub fn write_piece<K: Sink>(sink: &mut K, piece: &[u8]) -> Result<(), Failed>
     ensures written { WritesPiece (K.written sink.old) (K.written sink.new) result piece.now }
     ensures cause { HasCause (K.write_faults sink.old) (K.write_faults sink.new) result }

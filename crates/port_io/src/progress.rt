@@ -1,4 +1,5 @@
-//! How far reads over bytes in memory have come: what a source that owns its bytes shares with a log that borrows them.
+//! How far reads over bytes in memory have come: what a source that owns its bytes shares with a
+//! log that borrows them.
 ghost use Rattle.std.specs.Prelude.{◌≡◌, ◌<◌, ◌≤◌, length, false};
 ghost use Rattle.std.specs.Io.{ReadsAtMost};
 ghost use Rattle.port_io.specs.Source.{ReadsFrom, SaysEnd, Takes};

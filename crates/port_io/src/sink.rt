@@ -17,7 +17,8 @@ pub trait Sink {
     /// What stands on the sink's other side, which no write changes.
     ghost other: { Self → OtherSide };
 
-    /// Writes the first bytes of `piece`, one at least, and answers how many. After `Failed` none were written.
+    /// Writes the first bytes of `piece`, one at least, and answers how many. After `Failed` none
+    /// were written.
     fn write(&mut self, piece: &[u8]) -> Result<usize, Failed>
         requires { 0 < length piece.now }
 

@@ -29,8 +29,9 @@ pub trait Source {
     /// What stands on the source's other side, which no read changes.
     ghost other: { Self → OtherSide };
 
-    /// Reads some of the bytes left into the front of `buf`, and answers how many. `Ok(0)` says that none are left.
-    /// The bytes of `buf` past that number may be any. After `Failed` none were taken.
+    /// Reads some of the bytes left into the front of `buf`, and answers how many. `Ok(0)` says
+    /// that none are left. The bytes of `buf` past that number may be any. After `Failed` none were
+    /// taken.
     fn read(&mut self, buf: &mut [u8]) -> Result<usize, Failed>
         requires { 0 < length buf.old }
 

@@ -1,4 +1,5 @@
-//! The objects in memory at work, the files and streams of the system once each, and that all may go to another thread.
+//! The objects in memory at work, the files and streams of the system once each, and that all may
+//! go to another thread.
 ghost use Rattle.std.specs.Prelude.{◌≤◌};
 
 use crate::*;

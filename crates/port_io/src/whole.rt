@@ -103,7 +103,8 @@ pub fn read_whole<B: Library>(
     ensures whole { IfOk result (λ bytes. IfSome (B.files library.old) (λ files.
         named files name.now ≡ Some bytes.items)) }
 
-    // The bytes taken and those left are the named file, and `Long` comes exactly where more than `limit` were taken.
+    // The bytes taken and those left are the named file, and `Long` comes exactly where more than
+    // `limit` were taken.
     ensures taken { ¬ IsErrOf result WholeRefused.Open → (moved : List ℕ)
         × OpensFile (B.files library.old) name.now (prepend_known moved (B.left library.new))
         × AnswersTaken limit moved WholeRefused.Long result }
@@ -112,11 +113,13 @@ pub fn read_whole<B: Library>(
         (IsErrOf result WholeRefused.Open) }
     ensures read_cause { Explains (B.more_faults library.old) (B.more_faults library.new)
         (IsErrOf result WholeRefused.Read) }
-    ensures unread { IsErrOf result WholeRefused.Open → B.more_faults library.new ≡ B.more_faults library.old }
+    ensures unread { IsErrOf result WholeRefused.Open →
+        B.more_faults library.new ≡ B.more_faults library.old }
 
     // The file was begun once, and the answer is `Open` exactly where it could not be.
     ensures begun { (B.begun library.new ≡ false) ↔ IsErrOf result WholeRefused.Open }
-    ensures strays { B.strays library.new ≡ strays_after (B.files library.old) name.now (B.strays library.old) }
+    ensures strays { B.strays library.new
+        ≡ strays_after (B.files library.old) name.now (B.strays library.old) }
     ensures files { B.files library.new ≡ B.files library.old }
 {
     if library.begin(name).is_err() {
@@ -143,9 +146,11 @@ pub fn read_source<S: Source>(
 ) -> Result<Vec<u8>, SourceRefused>
     ensures whole { IfOk result (λ bytes. IfSome (S.left source.old) (λ left. bytes.items ≡ left)) }
 
-    // The bytes taken were the first of those left, and `Long` comes exactly where they are more than `limit`.
+    // The bytes taken were the first of those left, and `Long` comes exactly where they are more
+    // than `limit`.
     ensures taken { (moved : List ℕ)
-        × Moves (S.left source.old) (S.left source.new) (S.taken source.old) (S.taken source.new) moved
+        × Moves (S.left source.old) (S.left source.new)
+        (S.taken source.old) (S.taken source.new) moved
         × AnswersTaken limit moved SourceRefused.Long result }
     ensures ended { S.ended source.new ≡ (if is_ok result then true else S.ended source.old) }
 
