@@ -1,5 +1,6 @@
 -- What follows of a file from what reading its lines gives.
-use Rattle.std.proofs.Common.{◌≡◌, ℕ, ◌≤◌, List, [], length, All, Ok, refl, sym, ap, subst, ◌∙◌, arith, inl, inr}
+use Rattle.std.proofs.Common.{◌⊎◌, ◌≡◌, ℕ, ◌≤◌, List, [], length, All, Result, Ok, Err, refl, sym, ap, subst, ◌∙◌, arith, inl, inr}
+use Rattle.std.proofs.lemmas.Bool.{cases_lt}
 use Rattle.byte_forms.specs.Lines.{all_lines}
 use Rattle.bench_model.specs.declared.database.Message.{Message}
 use Rattle.bench_model.specs.declared.database.Database.{Database}
@@ -100,3 +101,15 @@ one_line bytes m n first second =
 
 pub not_both : (bytes : List ℕ) (d : Database) (n : ℕ) → SpellsDatabase bytes d → IsRefusedAt bytes n → ⊥
 not_both bytes d n spells refused = read_not_refused bytes d.messages spells.0 (SpellsDatabase-outcome bytes d spells) n refused
+
+answer_by : (bytes : List ℕ) (read : Result (List Message) ℕ) → length bytes ≤ byte_limit → outcome [] 0 (all_lines bytes) ≡ read → ((d : Database) × SpellsDatabase bytes d) ⊎ ((n : ℕ) × IsRefusedAt bytes n)
+answer_by bytes (Ok messages) short e = inl (database messages, SpellsDatabase-read bytes messages short e)
+answer_by bytes (Err n) short e = inr (n, inr (short, text-stopped (all_lines bytes) n e))
+
+-- each file spells a database or is refused
+pub some_answer : (bytes : List ℕ) → ((d : Database) × SpellsDatabase bytes d) ⊎ ((n : ℕ) × IsRefusedAt bytes n)
+some_answer bytes =
+    elim (cases_lt byte_limit (length bytes)) [
+      | inl long ↦ inr (0, inl (long, refl))
+      | inr short ↦ answer_by bytes (outcome [] 0 (all_lines bytes)) short refl
+    ]

@@ -1,5 +1,8 @@
-use Rattle.dbc_grammar.proofs.ReadLaws.{one_database, one_line, not_both}
+use Rattle.dbc_grammar.proofs.ReadLaws.{some_answer, one_database, one_line, not_both}
 use Rattle.dbc_grammar.proofs.laws.one_answer.Goals as goal
+
+pub returns-clause-some : goal.returns-clause-some
+returns-clause-some c = some_answer
 
 pub returns-clause-database : goal.returns-clause-database
 returns-clause-database c = one_database
