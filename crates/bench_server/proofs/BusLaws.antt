@@ -1,10 +1,9 @@
 -- A bench line and its bus.
-use Rattle.std.proofs.Common.{◌≡◌, ℕ, true, List, [], ◌∷◌, ◌++◌, length, codes, Option, Some, None, refl, ap, sym, ◌∙◌, ◌⊎◌, inl, inr, ◌&&◌, subst}
-use Rattle.std.proofs.lemmas.List.{append-nil}
+use Rattle.std.proofs.Common.{◌≡◌, ℕ, true, List, [], ◌∷◌, ◌++◌, codes, Some, None, refl, ap, sym, ◌∙◌, inl, inr, ◌&&◌, subst}
 use Rattle.std.specs.List.{list_all}
 use Rattle.byte_forms.specs.declared.class.Class.TheVariants as classes
 use Rattle.byte_forms.specs.Classes.{is_in}
-use Rattle.byte_forms.specs.Pieces.{after_literal, field_before, ◌>>=◌}
+use Rattle.byte_forms.specs.Pieces.{field_before, ◌>>=◌}
 use Rattle.byte_forms.specs.Lines.{all_lines}
 use Rattle.byte_forms.proofs.PieceLaws.{bind_some, after_literal-append, after_literal_takes, field_before-append, field_before_takes}
 use Rattle.bench_server.proofs.Tests.{parts, guarded}

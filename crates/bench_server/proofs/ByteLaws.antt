@@ -1,10 +1,10 @@
 -- Bytes and their hexadecimal digits.
-use Rattle.std.proofs.Common.{◌≡◌, ℕ, ◌+◌, ◌*◌, ◌<◌, ◌≤◌, ◌&&◌, Bool, true, false, cond, eqb, not, List, [], ◌∷◌, ◌++◌, length, Option, Some, None, refl, ap, sym, ◌∙◌, arith, append_assoc}
+use Rattle.std.proofs.Common.{◌≡◌, ℕ, ◌+◌, ◌*◌, ◌<◌, ◌&&◌, Bool, true, false, cond, List, [], ◌∷◌, ◌++◌, length, Option, Some, None, refl, ap, sym, ◌∙◌, arith, append_assoc}
 use Rattle.std.proofs.lemmas.List.{append-nil}
 use Rattle.std.specs.Option.{option_map}
 use Rattle.std.specs.Char.{digit_value, is_ascii_hexdigit}
 use Rattle.byte_forms.specs.Numerals.{byte_at}
-use Rattle.bench_server.proofs.Tests.{parts, guarded}
+use Rattle.bench_server.proofs.Tests.{parts}
 use Rattle.bench_server.specs.LogFile.{SpellsBytes, bytes_of}
 
 none_by : (b : Bool) (x : ℕ × List ℕ) (o : Option (List ℕ)) → None ≡ cond b (Some x) None → cond b o None ≡ None

@@ -1,5 +1,5 @@
 -- How a decode of a bus ends.
-use Rattle.std.proofs.Common.{◌≡◌, ℕ, List, Option, Some, None, IfSome, Result, Ok, Err, OnOk, IfErr, refl, sym, ap, subst, inl, inr, ◌⊎◌}
+use Rattle.std.proofs.Common.{◌≡◌, ℕ, List, Option, Some, None, IfSome, Result, Ok, Err, refl, subst, inr}
 use Rattle.std.specs.Io.KnownBytes.{append_known}
 use Rattle.bench_model.specs.declared.database.Database.{Database}
 use Rattle.bench_server.specs.declared.status.Status.{Status}
@@ -8,7 +8,7 @@ use Rattle.bench_server.specs.declared.log_file.Frame.{Frame}
 use Rattle.bench_server.specs.BenchFile.{BusFiles}
 use Rattle.bench_server.specs.Decoded.{bus_text}
 use Rattle.bench_server.specs.Tool.{Files, bench_of}
-use Rattle.bench_server.specs.Writing.{AppendsFront, StopsWriting, WritesText}
+use Rattle.bench_server.specs.Writing.{AppendsFront, WritesText}
 use Rattle.bench_server.specs.Ends.{HasText, EndsBus}
 use Rattle.bench_server.specs.BusEnds.{ReadsDatabase, ReadsLog, status_of, stands}
 

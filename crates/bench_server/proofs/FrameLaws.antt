@@ -1,19 +1,18 @@
 -- A candump line and its frame.
-use Rattle.std.proofs.Common.{◌≡◌, ℕ, ◌+◌, ◌*◌, ◌<◌, ◌≤◌, ◌&&◌, Bool, true, false, cond, eqb, List, [], ◌∷◌, ◌++◌, length, codes, Option, Some, None, refl, ap, sym, ◌∙◌, subst, nat_le, eqb-true, eq-eqb, arith, ◌==◌}
+use Rattle.std.proofs.Common.{◌≡◌, ℕ, ◌+◌, ◌*◌, ◌≤◌, Bool, true, false, cond, List, ◌++◌, length, codes, Option, Some, None, refl, ap, ◌∙◌, subst, nat_le, eqb-true, eq-eqb, arith, ◌==◌}
 use Rattle.std.proofs.lemmas.Bool.{leb-true, le-leb}
 use Rattle.std.specs.List.{list_all}
 use Rattle.byte_forms.specs.declared.class.Class.TheVariants as classes
 use Rattle.byte_forms.specs.declared.numerals.Radix.TheVariants as radixes
 use Rattle.byte_forms.specs.Classes.{is_in}
-use Rattle.byte_forms.specs.Numerals.{is_numeral, number_of, number_up_to}
-use Rattle.byte_forms.specs.Pieces.{after_literal, field_before, ◌>>=◌}
+use Rattle.byte_forms.specs.Numerals.{is_numeral, number_of}
+use Rattle.byte_forms.specs.Pieces.{field_before, ◌>>=◌}
 use Rattle.byte_forms.proofs.PieceLaws.{bind_some, after_literal-append, after_literal_takes, field_before-append, field_before_takes}
 use Rattle.byte_forms.proofs.NumberLaws.{number_up_to_takes, number_up_to-is}
 use Rattle.byte_forms.proofs.SignedLaws.{number_of-below}
-use Rattle.bench_model.specs.declared.database.Key.{Key}
 use Rattle.bench_server.specs.declared.log_file.Frame.{Frame}
 use Rattle.bench_server.specs.LogFile.{LinePieces, line_text, SpellsBytes, SpellsFrame, SpellsNoFrame, bytes_of, stamp_of, key_of, payload_of, frame_from, pieces_of, frame_of}
-use Rattle.bench_server.proofs.Tests.{parts, guarded}
+use Rattle.bench_server.proofs.Tests.{parts}
 use Rattle.bench_server.proofs.ByteLaws.{bytes_of_takes, bytes_of-spelled, SpellsBytes-length}
 
 -- what a choice let through

@@ -1,10 +1,10 @@
 -- One text written after another.
-use Rattle.std.proofs.Common.{◌≡◌, ℕ, ◌≤◌, List, [], ◌++◌, Option, Result, Ok, Err, OnOk, IfErr, refl, ap, sym, ◌∙◌, subst, arith, append_assoc}
+use Rattle.std.proofs.Common.{◌≡◌, ℕ, ◌≤◌, List, [], ◌++◌, Option, Result, Ok, Err, OnOk, IfErr, ap, sym, ◌∙◌, subst, arith, append_assoc}
 use Rattle.std.proofs.lemmas.List.{append-nil}
 use Rattle.std.specs.Io.KnownBytes.{append_known}
 use Rattle.port_io.proofs.Known.{append_known-append}
 use Rattle.bench_server.specs.declared.status.Status.{Status}
-use Rattle.bench_server.specs.Writing.{AppendsFront, StopsWriting, WritesText}
+use Rattle.bench_server.specs.Writing.{StopsWriting, WritesText}
 use Rattle.bench_server.proofs.WritingLaws.{stops_later, front_more}
 
 -- where the first text stops, nothing of the second is written

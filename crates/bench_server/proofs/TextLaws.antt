@@ -1,11 +1,10 @@
 -- Texts that grow at their end.
-use Rattle.std.proofs.Common.{◌≡◌, ◌≢◌, ℕ, zero, suc, ◌-◌, ◌/◌, ◌%◌, List, [], ◌∷◌, ◌++◌, refl, ap, sym, ◌∙◌, append_assoc, arith, take, drop, length, get_or, add-one, drop-cons, ◌+◌, ◌<◌, Option, take-append-drop}
-use Rattle.std.specs.Prelude.{flat_map}
+use Rattle.std.proofs.Common.{◌≡◌, ℕ, zero, suc, ◌-◌, ◌/◌, ◌%◌, List, [], ◌∷◌, ◌++◌, refl, ap, sym, ◌∙◌, append_assoc, arith, take, drop, length, get_or, add-one, drop-cons, ◌+◌, ◌<◌, Option, take-append-drop}
 use Rattle.std.specs.Borrow.{Bor}
 use Rattle.std.specs.Io.KnownBytes.{append_known}
 use Rattle.port_io.proofs.Known.{append_known-append}
 use Rattle.bench_server.specs.TextView.{joined}
-use Rattle.bench_server.specs.ItemText.{hex_digit, hex_digits, behind_blank, line_of}
+use Rattle.bench_server.specs.ItemText.{hex_digit, hex_digits}
 
 -- one hexadecimal digit more
 pub hex_more : (k n digit : ℕ) (front middle more : List ℕ) → (k ≡ 0 → ⊥) → middle ≡ front ++ hex_digits (k - 1) (n / 16) → digit ≡ hex_digit (n % 16) →

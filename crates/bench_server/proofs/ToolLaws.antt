@@ -1,5 +1,5 @@
 -- From the end of a bus to the end of the tool.
-use Rattle.std.proofs.Common.{◌≡◌, ℕ, ◌+◌, ◌-◌, ◌^◌, ◌<◌, ◌≤◌, List, [], Option, Some, None, IfSome, IsSome, refl, sym, ap, subst, inl, inr, ◌⊎◌, arith, length, ◌∙◌, is_some, min, cond}
+use Rattle.std.proofs.Common.{◌≡◌, ℕ, ◌<◌, ◌≤◌, List, [], Option, Some, None, IfSome, IsSome, refl, sym, subst, inl, inr, ◌⊎◌, arith, length, is_some, cond}
 use Rattle.std.specs.Io.KnownBytes.{append_known}
 use Rattle.byte_forms.specs.Lines.{all_lines}
 use Rattle.port_io.specs.Causes.{Rose, raised}
@@ -8,12 +8,12 @@ use Rattle.dbc_grammar.specs.Contract.{byte_limit}
 use Rattle.bench_server.specs.declared.status.Status.{Status}
 use Rattle.bench_server.specs.declared.status.Status.TheVariants as status
 use Rattle.bench_server.specs.BenchFile.{BusFiles, IsBench, IsBenchFault}
-use Rattle.bench_server.specs.Tool.{Files, RefusedAt, HasBench, IsToolText, IsRefused, IsBenchRefused, IsDatabaseRefused, IsLogRefused}
+use Rattle.bench_server.specs.Tool.{Files, HasBench, IsToolText, IsRefused}
 use Rattle.bench_server.specs.Writing.{AppendsFront}
-use Rattle.bench_server.specs.Ends.{Counts, Stands, NothingWritten, HasText, RefusesDatabase, RefusesLogFile, FailsToRead, EndsBus}
+use Rattle.bench_server.specs.Ends.{Counts, HasText, RefusesDatabase, RefusesLogFile, FailsToRead, EndsBus}
 use Rattle.bench_server.specs.BusEnds.{stands, AreLogsOf, HasBusFiles}
 use Rattle.bench_server.specs.FaultLine.{fault_line, Reports}
-use Rattle.bench_server.specs.ToolEnds.{WritesFront, EndsTool, NamesBus, ReportsTool, AreToolLogs, HasToolFiles}
+use Rattle.bench_server.specs.ToolEnds.{EndsTool, NamesBus, ReportsTool, AreToolLogs, HasToolFiles}
 
 -- a count that rose since a later moment rose since an earlier one
 rose_since : (a b c : ℕ) → a ≤ b → Rose b c → Rose a c

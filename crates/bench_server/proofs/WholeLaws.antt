@@ -1,7 +1,6 @@
 -- A bench with scalings in whole numbers gives whole values.
-use Rattle.std.proofs.Common.{◌≡◌, ℕ, zero, suc, ◌<◌, List, [], ◌∷◌, Option, Some, None, All, IfSome, length, get_or, refl, ◌∙◌, sym, ap}
-use Rattle.std.proofs.lemmas.List.Elements.{All-cons, All-head, All-tail, All-nil, All-get_or}
-use Rattle.std.proofs.lemmas.Option.{slice_get-get_or}
+use Rattle.std.proofs.Common.{◌≡◌, ℕ, zero, suc, List, [], ◌∷◌, Option, Some, None, All, IfSome}
+use Rattle.std.proofs.lemmas.List.Elements.{All-cons, All-head, All-tail, All-nil}
 use Rattle.std.specs.Prelude.{ℤ, slice_get}
 use Rattle.std.specs.List.{filter_map, cons_option}
 use Rattle.std.specs.Option.{option_map}
@@ -12,7 +11,6 @@ use Rattle.bench_model.specs.declared.database.Message.{Message}
 use Rattle.bench_model.specs.declared.database.Bus.{Bus}
 use Rattle.bench_model.specs.declared.database.Bench.{Bench}
 use Rattle.bench_model.specs.declared.reading.Ask.{Ask}
-use Rattle.bench_model.specs.declared.reading.Plain.{Plain}
 use Rattle.bench_model.specs.declared.reading.SignalValue.{SignalValue}
 use Rattle.bench_model.specs.Raw.{raw_value}
 use Rattle.bench_model.specs.Meaning.{coded, physical, signal_value, message_meaning, matching, bus_meaning, bench_meaning}

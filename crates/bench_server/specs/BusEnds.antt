@@ -1,5 +1,5 @@
 -- What the readers of a bus's files give.
-use Rattle.std.specs.Prelude.{◌≡◌, ◌⊎◌, ℕ, List, [], ◌∷◌, ◌++◌, Option, Some, None, IfSome, IsSome, Result, Ok, Err}
+use Rattle.std.specs.Prelude.{◌≡◌, ℕ, List, [], ◌∷◌, ◌++◌, Option, Some, None, IfSome, IsSome, Result, Ok, Err}
 use Rattle.port_io.specs.Causes.{Rose}
 use Rattle.port_io.specs.Library.{named}
 use Rattle.bench_model.specs.declared.database.Database.{Database}

@@ -1,6 +1,5 @@
 -- The decoded list of a log, and the text that the tool makes of it.
 use Rattle.std.specs.Prelude.{ℕ, ◌+◌, List, [], ◌∷◌, ◌++◌, length, flat_map, Option, Some, None}
-use Rattle.bench_model.specs.declared.database.Key.{Key}
 use Rattle.bench_model.specs.declared.database.Bench.{Bench}
 use Rattle.bench_model.specs.declared.reading.Ask.TheVariants as ask
 use Rattle.bench_model.specs.declared.reading.Plain.{Plain}

@@ -1,5 +1,5 @@
 -- The text of a session: each item is whole lines of words parted by single blanks.
-use Rattle.std.specs.Prelude.{ℕ, zero, suc, ◌+◌, ◌/◌, ◌%◌, ◌==◌, ◌||◌, ◌++◌, List, [], ◌∷◌, codes, Bool, true, false, flat_map, nat_lt, Option, Some, None, if◌then◌else◌}
+use Rattle.std.specs.Prelude.{ℕ, zero, suc, ◌+◌, ◌/◌, ◌%◌, ◌==◌, ◌||◌, ◌++◌, List, [], ◌∷◌, codes, flat_map, nat_lt, Option, Some, None, if◌then◌else◌}
 use Rattle.std.specs.Fmt.{decimal, signed_decimal}
 use Rattle.bench_model.specs.declared.database.Key.{Key}
 use Rattle.bench_model.specs.declared.reading.SignalValue.{SignalValue}

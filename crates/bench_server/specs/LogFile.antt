@@ -1,5 +1,5 @@
 -- The log of this version: candump lines of classic frames (can-utils), `(SECONDS.MICROS) IFACE ID#BYTES`.
-use Rattle.std.specs.Prelude.{◌≡◌, ◌≤◌, ℕ, ◌+◌, ◌*◌, ◌==◌, ◌&&◌, Bool, true, false, not, List, [], ◌∷◌, ◌++◌, length, codes, nat_le, Option, Some, None, if◌then◌else◌}
+use Rattle.std.specs.Prelude.{◌≡◌, ◌≤◌, ℕ, ◌+◌, ◌*◌, ◌==◌, ◌&&◌, true, false, List, [], ◌∷◌, ◌++◌, length, codes, nat_le, Option, Some, None, if◌then◌else◌}
 use Rattle.std.specs.Option.{option_map}
 use Rattle.std.specs.List.{list_all}
 use Rattle.std.specs.Char.{digit_value, is_ascii_hexdigit}
@@ -8,7 +8,6 @@ use Rattle.byte_forms.specs.declared.numerals.Radix.TheVariants as radixes
 use Rattle.byte_forms.specs.Classes.{is_in}
 use Rattle.byte_forms.specs.Numerals.{is_numeral, number_of, number_up_to}
 use Rattle.byte_forms.specs.Pieces.{after_literal, field_before, ◌>>=◌}
-use Rattle.bench_model.specs.declared.database.Key.{Key}
 use Rattle.bench_server.specs.declared.log_file.Frame.{Frame}
 
 -- the pieces of a line

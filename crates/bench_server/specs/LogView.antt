@@ -1,5 +1,5 @@
 -- What the readers of a log give, with the texts behind their references.
-use Rattle.std.specs.Prelude.{◌≡◌, ℕ, List, Option, Some, None, Result, Ok, Err, IfOk}
+use Rattle.std.specs.Prelude.{Option, Some, None}
 use Rattle.bench_server.specs.declared.log_file.Pieces.{Pieces}
 use Rattle.bench_server.specs.LogFile.{LinePieces}
 

@@ -1,5 +1,5 @@
 -- What the tool writes for `decode`: a function of the bytes of the bench file, the database and the log.
-use Rattle.std.specs.Prelude.{◌≡◌, ◌⊎◌, ℕ, ◌<◌, ◌≤◌, List, [], ◌∷◌, ◌++◌, length, Option, Some, None}
+use Rattle.std.specs.Prelude.{◌≡◌, ◌⊎◌, ℕ, ◌<◌, ◌≤◌, List, [], ◌∷◌, length, Some}
 use Rattle.byte_forms.specs.Lines.{all_lines}
 use Rattle.port_io.specs.Library.{named}
 use Rattle.bench_model.specs.declared.database.Kind.TheVariants as kind

@@ -1,14 +1,12 @@
 -- How a run of the tool ends.
-use Rattle.std.specs.Prelude.{◌≡◌, ◌⊎◌, ℕ, ◌<◌, ◌≤◌, List, [], ◌∷◌, ◌++◌, length, Option, Some, None, IfSome, IsSome}
+use Rattle.std.specs.Prelude.{◌≡◌, ◌⊎◌, ℕ, List, [], Option, Some, None, IfSome, IsSome}
 use Rattle.std.specs.Io.KnownBytes.{append_known}
-use Rattle.byte_forms.specs.Lines.{all_lines}
 use Rattle.port_io.specs.Causes.{Rose}
 use Rattle.port_io.specs.Library.{named}
-use Rattle.dbc_grammar.specs.Contract.{byte_limit}
 use Rattle.bench_server.specs.declared.status.Status.{Status}
 use Rattle.bench_server.specs.declared.status.Status.TheVariants as status
-use Rattle.bench_server.specs.BenchFile.{BusFiles, IsBenchFault}
-use Rattle.bench_server.specs.Tool.{Files, RefusedAt, SpellsBench, HasBench, IsToolText, IsRefused}
+use Rattle.bench_server.specs.BenchFile.{BusFiles}
+use Rattle.bench_server.specs.Tool.{Files, HasBench, IsToolText, IsRefused}
 use Rattle.bench_server.specs.Writing.{AppendsFront}
 use Rattle.bench_server.specs.Ends.{Stands, NothingWritten}
 use Rattle.bench_server.specs.BusEnds.{AreLogsOf}

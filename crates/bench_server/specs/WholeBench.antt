@@ -1,5 +1,5 @@
 -- Benches whose scalings give whole numbers, and the values that they give.
-use Rattle.std.specs.Prelude.{◌≡◌, ◌<◌, ◌≤◌, ℕ, List, All, length}
+use Rattle.std.specs.Prelude.{◌≡◌, ◌<◌, List, All, length}
 use Rattle.bench_model.specs.declared.database.Bench.{Bench}
 use Rattle.bench_model.specs.declared.reading.SignalValue.{SignalValue}
 use Rattle.bench_model.specs.declared.reading.Body.{Body}

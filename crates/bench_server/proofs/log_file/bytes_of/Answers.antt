@@ -1,4 +1,4 @@
-use Rattle.std.proofs.Common.{◌≡◌, ◌∙◌, sym, ap, length, arith, ◌<◌, Some, eqb-true}
+use Rattle.std.proofs.Common.{◌∙◌, sym, ap, Some, eqb-true}
 use Rattle.bench_server.proofs.Tests.{not_zero}
 use Rattle.bench_server.proofs.ByteLaws.{byte_at-shorter, none_left, one_more, all_read}
 use Rattle.bench_server.proofs.log_file.bytes_of.Goals as goal

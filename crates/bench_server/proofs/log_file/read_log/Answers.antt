@@ -1,4 +1,4 @@
-use Rattle.std.proofs.Common.{◌≡◌, ◌∙◌, sym, ap, refl, ℕ, ◌+◌, subst, length, arith}
+use Rattle.std.proofs.Common.{◌≡◌, ◌∙◌, sym, refl, ℕ, ◌+◌, subst, length, arith}
 use Rattle.byte_forms.specs.Lines.{all_lines}
 use Rattle.bench_server.specs.LogFile.{IsLogFault}
 use Rattle.bench_server.proofs.LogLaws.{read_more, first_fault, all_lawful}

@@ -1,4 +1,4 @@
-use Rattle.std.proofs.Common.{◌≡◌, ◌∙◌, sym, ap, arith, inl, inr, List, ℕ, ◌++◌}
+use Rattle.std.proofs.Common.{◌∙◌, sym, ap, arith, inr, List, ℕ, ◌++◌}
 use Rattle.bench_server.proofs.TextLaws.{piece_sent, piece_cut, joined-drop}
 use Rattle.bench_server.proofs.report.write_pieces.Goals as goal
 

@@ -1,4 +1,4 @@
-use Rattle.std.proofs.Common.{◌≡◌, ◌∙◌, sym, ap, subst, List, ℕ, Some}
+use Rattle.std.proofs.Common.{◌∙◌, sym, subst, List, ℕ, Some}
 use Rattle.byte_forms.specs.Lines.{all_lines}
 use Rattle.bench_server.specs.declared.status.Status.{Status}
 use Rattle.bench_server.specs.BenchFile.{IsBench}

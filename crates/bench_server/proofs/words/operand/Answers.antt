@@ -1,4 +1,4 @@
-use Rattle.std.proofs.Common.{◌≤◌, length, arith}
+use Rattle.std.proofs.Common.{◌≤◌, length}
 use Rattle.std.proofs.lemmas.List.{length-map}
 use Rattle.bench_server.specs.WordView.{words_of}
 use Rattle.bench_server.proofs.WordLaws.{many}
