@@ -2,3 +2,4 @@ pub mod Places
 pub mod Raws
 pub mod Scaling
 pub mod Found
+pub mod IntelWeights

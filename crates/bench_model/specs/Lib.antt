@@ -2,3 +2,4 @@ pub mod Raw
 pub mod Value
 pub mod Meaning
 pub mod Limits
+pub mod Weights

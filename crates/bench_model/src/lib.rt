@@ -9,6 +9,7 @@
 #![tactic(auto)]
 
 mod database;
+mod laws;
 mod list;
 mod plain;
 mod raw;
@@ -17,7 +18,11 @@ mod scale;
 mod text;
 
 pub use database::{Bench, Bus, Coding, Database, Entry, Key, Kind, Label, Message, Order, Signal};
+pub use laws::intel_weights;
 pub use list::List;
 pub use reading::{Ask, Body, CutCause, Item, Plain, Reading, SignalValue};
 pub use scale::{Exact, Scale};
 pub use text::Text;
+
+#[cfg(test)]
+mod tests;

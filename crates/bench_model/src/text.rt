@@ -5,7 +5,7 @@ ghost use Rattle.std.specs.Prelude.{◌≡◌, IfOk};
 use std::alloc::{AllocError, Global};
 use std::marker::Model;
 
-/// A text of any bytes, mostly UTF-8. Contracts see it as the list of its bytes.
+/// A text of any bytes. Contracts see it as the list of its bytes.
 #[derive(Debug, Drop)]
 pub struct Text {
     content: Vec<u8>,
