@@ -6,17 +6,17 @@ use Rattle.byte_forms.specs.Classes.{is_in}
 use Rattle.byte_forms.specs.Pieces.{field_before, ◌>>=◌}
 use Rattle.byte_forms.specs.Lines.{all_lines}
 use Rattle.byte_forms.proofs.PieceLaws.{bind_some, after_literal-append, after_literal_takes, field_before-append, field_before_takes}
-use Rattle.bench_server.proofs.Tests.{parts, guarded}
-use Rattle.bench_server.specs.BenchFile.{BusFiles, is_bus_name, is_file_name, IsLawfulBus, bus_text, SpellsBus, SpellsNoBus, IsBench, IsBenchFault, lawful_bus, bus_of}
+use Rattle.bench_server.proofs.Guards.{parts, guarded}
+use Rattle.bench_server.specs.BenchFile.{BusFiles, is_bus_name, is_file_name, IsLawfulBus, bench_line, SpellsBus, SpellsNoBus, IsBench, IsBenchFault, lawful_bus, bus_of}
 
 other_by : (line : List ℕ) (lines : List (List ℕ)) → SpellsNoBus line → IsBenchFault (line ∷ lines) 1
 other_by line [] none = (refl, none)
 other_by line (other ∷ others) none = inl (refl, none)
 
 -- the line of a lawful bus gives that bus
-pub bus_of-text : (bus : BusFiles) → IsLawfulBus bus → bus_of (bus_text bus) ≡ Some bus
+pub bus_of-bench_line : (bus : BusFiles) → IsLawfulBus bus → bus_of (bench_line bus) ≡ Some bus
 unfolding bus_of
-bus_of-text bus h =
+bus_of-bench_line bus h =
     let name_in : list_all (is_in classes.WordByte) bus.name ≡ true = (parts _ _ (parts _ _ h.name).1).1 in
     let log_in : list_all (is_in classes.Graphic) bus.log ≡ true = (parts _ _ (parts _ _ h.log).1).1 in
     rw (after_literal-append (codes "bus ") (bus.name ++ (codes " can " ++ (bus.log ++ (codes " " ++ bus.database)))))
@@ -55,7 +55,7 @@ bus_of_takes line bus e =
 
 -- a line that spells a bus gives it
 pub bus_of-spelled : (line : List ℕ) (bus : BusFiles) → SpellsBus line bus → bus_of line ≡ Some bus
-bus_of-spelled line bus h = ap bus_of h.text ∙ bus_of-text bus h.lawful
+bus_of-spelled line bus h = ap bus_of h.text ∙ bus_of-bench_line bus h.lawful
 
 -- a line that gives no bus spells none
 pub spells_none : (line : List ℕ) → None ≡ bus_of line → SpellsNoBus line

@@ -4,7 +4,7 @@ use Rattle.std.proofs.lemmas.List.{append-nil}
 use Rattle.std.specs.Option.{option_map}
 use Rattle.std.specs.Char.{digit_value, is_ascii_hexdigit}
 use Rattle.byte_forms.specs.Numerals.{byte_at}
-use Rattle.bench_server.proofs.Tests.{parts}
+use Rattle.bench_server.proofs.Guards.{parts}
 use Rattle.bench_server.specs.LogFile.{SpellsBytes, bytes_of}
 
 none_by : (b : Bool) (x : ℕ × List ℕ) (o : Option (List ℕ)) → None ≡ cond b (Some x) None → cond b o None ≡ None

@@ -7,8 +7,8 @@ use Rattle.bench_server.specs.declared.status.Status.TheVariants as status
 use Rattle.bench_server.specs.declared.log_file.Frame.{Frame}
 use Rattle.bench_server.specs.BenchFile.{BusFiles}
 use Rattle.bench_server.specs.Decoded.{bus_text}
-use Rattle.bench_server.specs.Tool.{Files, bench_of}
-use Rattle.bench_server.specs.Writing.{AppendsFront, WritesText}
+use Rattle.bench_server.specs.Tool.{Files, HasDatabase, bench_of}
+use Rattle.bench_server.specs.Writing.{AppendsPrefix, WritesText}
 use Rattle.bench_server.specs.Ends.{HasText, EndsBus}
 use Rattle.bench_server.specs.BusEnds.{ReadsDatabase, ReadsLog, status_of, stands}
 
@@ -38,10 +38,16 @@ with_text (Some fs) bus text P h p = (text, h, p)
 pub ends_bus : (files : Option Files) (o o' m m' f g : ℕ) (before now : Option (List ℕ)) (bus : BusFiles) (failed : Type 0) (text : List ℕ) (r : Result (Unit {0}) Status) →
     IfSome files (λ fs. HasText fs bus text) → WritesText before now f g r text → EndsBus (stands files o o' m m' f g before now) bus failed (status_of r)
 ends_bus files o o' m m' f g before now bus failed text (Ok u) h w = with_text files bus text (λ t. now ≡ append_known before t) h w.whole
-ends_bus files o o' m m' f g before now bus failed text (Err status.WriteFault) h w = (w.cause, with_text files bus text (λ t. AppendsFront before now t) h w.front)
-ends_bus files o o' m m' f g before now bus failed text (Err status.Memory) h w = inr (with_text files bus text (λ t. AppendsFront before now t) h w.front)
+ends_bus files o o' m m' f g before now bus failed text (Err status.WriteFault) h w = (w.cause, with_text files bus text (λ t. AppendsPrefix before now t) h w.front)
+ends_bus files o o' m m' f g before now bus failed text (Err status.Memory) h w = inr (with_text files bus text (λ t. AppendsPrefix before now t) h w.front)
 ends_bus files o o' m m' f g before now bus failed text (Err status.Ok) h w = absurd w.cause
 ends_bus files o o' m m' f g before now bus failed text (Err status.Usage) h w = absurd w.cause
 ends_bus files o o' m m' f g before now bus failed text (Err status.OpenFault) h w = absurd w.cause
 ends_bus files o o' m m' f g before now bus failed text (Err (status.ReadFault b)) h w = absurd w.cause
 ends_bus files o o' m m' f g before now bus failed text (Err (status.NotBuilt n l)) h w = absurd w.cause
+
+-- the database that was read is there
+pub database_there : (files : Option Files) (bus : BusFiles) (database : Database) → IfSome files (λ fs. ReadsDatabase fs bus.database database) →
+    IfSome files (λ fs. (d : Database) × HasDatabase fs bus d)
+database_there None bus database h = tt
+database_there (Some fs) bus database h = (database, record { bytes = h.0; file = h.1; spelled = h.2 })

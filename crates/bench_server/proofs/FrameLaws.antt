@@ -12,7 +12,7 @@ use Rattle.byte_forms.proofs.NumberLaws.{number_up_to_takes, number_up_to-is}
 use Rattle.byte_forms.proofs.SignedLaws.{number_of-below}
 use Rattle.bench_server.specs.declared.log_file.Frame.{Frame}
 use Rattle.bench_server.specs.LogFile.{LinePieces, line_text, SpellsBytes, SpellsFrame, SpellsNoFrame, bytes_of, stamp_of, key_of, payload_of, frame_from, pieces_of, frame_of}
-use Rattle.bench_server.proofs.Tests.{parts}
+use Rattle.bench_server.proofs.Guards.{parts}
 use Rattle.bench_server.proofs.ByteLaws.{bytes_of_takes, bytes_of-spelled, SpellsBytes-length}
 
 -- what a choice let through

@@ -1,4 +1,4 @@
--- Tests that hold together.
+-- Conjunctions of tests, and what a test lets through.
 use Rattle.std.proofs.Common.{◌≡◌, Bool, true, false, ◌&&◌, cond, Some, None, refl, ℕ, zero, suc, eqb, ◌<◌, arith}
 
 -- both parts of a test that holds

@@ -1,4 +1,4 @@
-pub mod Tests
+pub mod Guards
 pub mod BusLaws
 pub mod ByteLaws
 pub mod FrameLaws
@@ -11,3 +11,7 @@ pub mod Sequences
 pub mod NameLaws
 pub mod EndLaws
 pub mod ToolLaws
+pub mod OneLog
+pub mod OneBench
+pub mod OneEnd
+pub mod ExactLaws

@@ -8,7 +8,7 @@ use Rattle.std.proofs.lemmas.Grind.{common_steps}
 use Rattle.byte_forms.specs.declared.class.Class.TheVariants as classes
 use Rattle.byte_forms.specs.Classes.{is_in}
 use Rattle.bench_server.specs.BenchFile.{is_file_name}
-use Rattle.bench_server.proofs.Tests.{parts}
+use Rattle.bench_server.proofs.Guards.{parts}
 
 graphic-lt : (b : ℕ) → is_ascii_graphic b ≡ true → b < 128
 graphic-lt b h = grind (arith, common_steps)

@@ -4,12 +4,12 @@ use Rattle.std.specs.Io.KnownBytes.{append_known}
 use Rattle.byte_forms.specs.Lines.{all_lines}
 use Rattle.port_io.specs.Causes.{Rose, raised}
 use Rattle.port_io.specs.Library.{named, strays_after}
-use Rattle.dbc_grammar.specs.Contract.{byte_limit}
+use Rattle.bench_model.specs.declared.database.Database.{Database}
 use Rattle.bench_server.specs.declared.status.Status.{Status}
 use Rattle.bench_server.specs.declared.status.Status.TheVariants as status
 use Rattle.bench_server.specs.BenchFile.{BusFiles, IsBench, IsBenchFault}
-use Rattle.bench_server.specs.Tool.{Files, HasBench, IsToolText, IsRefused}
-use Rattle.bench_server.specs.Writing.{AppendsFront}
+use Rattle.bench_server.specs.Tool.{Files, file_limit, HasBench, HasDatabase, IsToolText, IsRefused}
+use Rattle.bench_server.specs.Writing.{AppendsPrefix}
 use Rattle.bench_server.specs.Ends.{Counts, HasText, RefusesDatabase, RefusesLogFile, FailsToRead, EndsBus}
 use Rattle.bench_server.specs.BusEnds.{stands, AreLogsOf, HasBusFiles}
 use Rattle.bench_server.specs.FaultLine.{fault_line, Reports}
@@ -20,7 +20,7 @@ rose_since : (a b c : ℕ) → a ≤ b → Rose b c → Rose a c
 rose_since a b c h r = omega (arith, r)
 
 long_bench : (files : Option Files) (bench : List ℕ) (n line : ℕ) → n ≡ 0 → line ≡ 0 →
-    IfSome files (λ fs. (bytes : List ℕ) × (named fs bench ≡ Some bytes) × (byte_limit < length bytes)) → IfSome files (λ fs. IsRefused fs bench n line)
+    IfSome files (λ fs. (bytes : List ℕ) × (named fs bench ≡ Some bytes) × (file_limit < length bytes)) → IfSome files (λ fs. IsRefused fs bench n line)
 long_bench None bench n line e l h = tt
 long_bench (Some fs) bench n line e l h = inl (e, record { bytes = h.0; file = h.1; refused = inl (h.2, l) })
 
@@ -38,13 +38,13 @@ fails_tool files bench o o' m m' f g before failed status.Usage h = absurd h
 fails_tool files bench o o' m m' f g before failed status.WriteFault h = absurd h
 
 -- the bench file's bytes, where the files are told
-pub has_bench : (files : Option Files) (bench bytes : List ℕ) (bus : BusFiles) → IfSome files (λ fs. named fs bench ≡ Some bytes) → length bytes ≤ byte_limit → IsBench (all_lines bytes) bus →
+pub has_bench : (files : Option Files) (bench bytes : List ℕ) (bus : BusFiles) → IfSome files (λ fs. named fs bench ≡ Some bytes) → length bytes ≤ file_limit → IsBench (all_lines bytes) bus →
     IfSome files (λ fs. HasBench fs bench bus)
 has_bench None bench bytes bus h short lines = tt
 has_bench (Some fs) bench bytes bus h short lines = record { bytes = bytes; file = h; spelled = (short, lines) }
 
 -- a faulty line of the bench file is the first refusal
-pub bench_refused : (files : Option Files) (bench bytes : List ℕ) (line : ℕ) → IfSome files (λ fs. named fs bench ≡ Some bytes) → length bytes ≤ byte_limit → IsBenchFault (all_lines bytes) line →
+pub bench_refused : (files : Option Files) (bench bytes : List ℕ) (line : ℕ) → IfSome files (λ fs. named fs bench ≡ Some bytes) → length bytes ≤ file_limit → IsBenchFault (all_lines bytes) line →
     IfSome files (λ fs. IsRefused fs bench 0 line)
 bench_refused None bench bytes line h short fault = tt
 bench_refused (Some fs) bench bytes line h short fault = inl (refl, record { bytes = bytes; file = h; refused = inr (short, fault) })
@@ -88,10 +88,16 @@ lift_refused None bench bus file line b h = tt
 lift_refused (Some fs) bench bus file line b h = refused_by fs bench bus file line b h
 
 lift_part : (files : Option Files) (bench : List ℕ) (bus : BusFiles) (before now : Option (List ℕ)) → IfSome files (λ fs. HasBench fs bench bus) →
-    (now ≡ before) ⊎ IfSome files (λ fs. (text : List ℕ) × HasText fs bus text × AppendsFront before now text) →
-    (now ≡ before) ⊎ IfSome files (λ fs. (text : List ℕ) × IsToolText fs bench text × AppendsFront before now text)
+    (now ≡ before) ⊎ IfSome files (λ fs. (text : List ℕ) × HasText fs bus text × AppendsPrefix before now text) →
+    (now ≡ before) ⊎ IfSome files (λ fs. (text : List ℕ) × IsToolText fs bench text × AppendsPrefix before now text)
 lift_part files bench bus before now b (inl none) = inl none
-lift_part files bench bus before now b (inr h) = inr (lift_text files bench bus (λ t. AppendsFront before now t) b h)
+lift_part files bench bus before now b (inr h) = inr (lift_text files bench bus (λ t. AppendsPrefix before now t) b h)
+
+lift_database : (files : Option Files) (bench : List ℕ) (bus : BusFiles) → IfSome files (λ fs. HasBench fs bench bus) →
+    IfSome files (λ fs. (database : Database) × HasDatabase fs bus database) →
+    IfSome files (λ fs. (b : BusFiles) × (database : Database) × HasBench fs bench b × HasDatabase fs b database)
+lift_database None bench bus b h = tt
+lift_database (Some fs) bench bus b h = (bus, h.0, b, h.1)
 
 ends_by : (files : Option Files) (bench : List ℕ) (bus : BusFiles) (o o1 o2 m m1 m2 f g : ℕ) (before now : Option (List ℕ)) (failed : Type 0) (s : Status) →
     o ≤ o1 → m ≤ m1 → IfSome files (λ fs. HasBench fs bench bus) → EndsBus (stands files o1 o2 m1 m2 f g before now) bus failed s →
@@ -100,8 +106,8 @@ ends_by files bench bus o o1 o2 m m1 m2 f g before now failed status.Ok lo lm b 
 ends_by files bench bus o o1 o2 m m1 m2 f g before now failed status.Usage lo lm b h = absurd h
 ends_by files bench bus o o1 o2 m m1 m2 f g before now failed status.OpenFault lo lm b h = (rose_since o o1 o2 lo h.0, h.1)
 ends_by files bench bus o o1 o2 m m1 m2 f g before now failed (status.ReadFault None) lo lm b h = (rose_since m m1 m2 lm h.0, h.1)
-ends_by files bench bus o o1 o2 m m1 m2 f g before now failed (status.ReadFault (Some n)) lo lm b h = h
-ends_by files bench bus o o1 o2 m m1 m2 f g before now failed status.WriteFault lo lm b h = (h.0, lift_text files bench bus (λ t. AppendsFront before now t) b h.1)
+ends_by files bench bus o o1 o2 m m1 m2 f g before now failed (status.ReadFault (Some n)) lo lm b h = (h.0, h.1, h.2, lift_database files bench bus b h.3)
+ends_by files bench bus o o1 o2 m m1 m2 f g before now failed status.WriteFault lo lm b h = (h.0, lift_text files bench bus (λ t. AppendsPrefix before now t) b h.1)
 ends_by files bench bus o o1 o2 m m1 m2 f g before now failed status.Memory lo lm b h = lift_part files bench bus before now b h
 ends_by files bench bus o o1 o2 m m1 m2 f g before now failed (status.NotBuilt file line) lo lm b h = (lift_refused files bench bus file line b h.0, h.1)
 

@@ -12,7 +12,7 @@ use Rattle.bench_server.specs.ItemText.{reading_text, item_text}
 use Rattle.bench_model.specs.declared.reading.Item.TheVariants as item
 use Rattle.bench_server.specs.Decoded.{reading_of, decoded, start_items, reading_items, items_text, bus_text}
 use Rattle.bench_server.specs.Records.{records_text, start_text, end_text}
-use Rattle.bench_server.specs.Writing.{AppendsFront, StopsWriting}
+use Rattle.bench_server.specs.Writing.{AppendsPrefix, StopsWriting}
 use Rattle.bench_server.proofs.TextLaws.{piece_sent}
 
 -- a cause since a later moment is one since an earlier
@@ -26,8 +26,8 @@ stops_later before was now (status.ReadFault bus) h rose = rose
 stops_later before was now (status.NotBuilt file line) h rose = rose
 
 -- a front of a piece behind what was sent is a front of the whole
-pub front_more : (before was now : Option (List ℕ)) (sent piece rest whole : List ℕ) → AppendsFront was now piece → sent ++ (piece ++ rest) ≡ whole → was ≡ append_known before sent →
-    AppendsFront before now whole
+pub front_more : (before was now : Option (List ℕ)) (sent piece rest whole : List ℕ) → AppendsPrefix was now piece → sent ++ (piece ++ rest) ≡ whole → was ≡ append_known before sent →
+    AppendsPrefix before now whole
 front_more before was now sent piece rest whole front e w =
     let part = front.0 in
     let left = front.1 in (
@@ -56,7 +56,7 @@ record_sent before was now sent text whole bench name n frames d e h t w o =
 -- a front of the record's text was sent
 pub record_cut : (before was now : Option (List ℕ)) (sent text whole : List ℕ) (bench : Bench) (name : List ℕ) (n : ℕ) (frames : List Frame) (d : Frame) →
     sent ++ records_text bench name n (drop n frames) ≡ whole → n < length frames → text ≡ reading_text name (reading_of bench 0 0 n (get_or frames n d)) →
-    was ≡ append_known before sent → AppendsFront was now text → AppendsFront before now whole
+    was ≡ append_known before sent → AppendsPrefix was now text → AppendsPrefix before now whole
 record_cut before was now sent text whole bench name n frames d e h t w front =
     front_more before was now sent text (records_text bench name (n + 1) (drop (n + 1) frames)) whole front
     (ap (λ (xs : List ℕ). sent ++ (xs ++ records_text bench name (n + 1) (drop (n + 1) frames))) t ∙ ap (λ (xs : List ℕ). sent ++ xs) (sym (records-drop bench name n frames d h)) ∙ e) w

@@ -25,13 +25,13 @@ pub record IsLawfulBus (bus : BusFiles) : Type 0 where
   pub database : is_file_name bus.database ≡ true
 
 -- the line of a bus
-abbrev pub bus_text : BusFiles → List ℕ
-bus_text bus = codes "bus " ++ (bus.name ++ (codes " can " ++ (bus.log ++ (codes " " ++ bus.database))))
+abbrev pub bench_line : BusFiles → List ℕ
+bench_line bus = codes "bus " ++ (bus.name ++ (codes " can " ++ (bus.log ++ (codes " " ++ bus.database))))
 
 -- the line is that of this bus
 pub record SpellsBus (line : List ℕ) (bus : BusFiles) : Type 0 where
   pub lawful : IsLawfulBus bus
-  pub text : line ≡ bus_text bus
+  pub text : line ≡ bench_line bus
 
 -- the line is that of no bus
 abbrev pub SpellsNoBus : List ℕ → Type 0

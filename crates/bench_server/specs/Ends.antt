@@ -5,15 +5,15 @@ use Rattle.byte_forms.specs.Lines.{all_lines}
 use Rattle.port_io.specs.Causes.{Rose}
 use Rattle.port_io.specs.Library.{named}
 use Rattle.bench_model.specs.declared.database.Database.{Database}
-use Rattle.dbc_grammar.specs.Contract.{byte_limit, IsRefusedAt}
+use Rattle.dbc_grammar.specs.Contract.{IsRefusedAt}
 use Rattle.bench_server.specs.declared.status.Status.{Status}
 use Rattle.bench_server.specs.declared.status.Status.TheVariants as status
 use Rattle.bench_server.specs.declared.log_file.Frame.{Frame}
 use Rattle.bench_server.specs.BenchFile.{BusFiles}
 use Rattle.bench_server.specs.LogFile.{IsLogFault}
 use Rattle.bench_server.specs.Decoded.{bus_text}
-use Rattle.bench_server.specs.Tool.{Files, RefusedAt, HasDatabase, HasLog, bench_of}
-use Rattle.bench_server.specs.Writing.{AppendsFront}
+use Rattle.bench_server.specs.Tool.{Files, file_limit, RefusedAt, HasDatabase, HasLog, bench_of}
+use Rattle.bench_server.specs.Writing.{AppendsPrefix}
 
 -- counts of faults before and after a call
 pub record Counts : Type 0 where
@@ -23,7 +23,7 @@ pub record Counts : Type 0 where
 -- a file of this number was not read whole: it is too long, or one of the library's counts rose
 abbrev pub FailsToRead : Option Files → List ℕ → ℕ → Counts → Counts → Status → Type 0
 FailsToRead files name file opens reads (status.NotBuilt n line) =
-    (n ≡ file) × (line ≡ 0) × IfSome files (λ fs. (bytes : List ℕ) × (named fs name ≡ Some bytes) × (byte_limit < length bytes))
+    (n ≡ file) × (line ≡ 0) × IfSome files (λ fs. (bytes : List ℕ) × (named fs name ≡ Some bytes) × (file_limit < length bytes))
 FailsToRead files name file opens reads status.OpenFault = Rose opens.before opens.now
 FailsToRead files name file opens reads (status.ReadFault None) = Rose reads.before reads.now
 FailsToRead files name file opens reads (status.ReadFault (Some bus)) = ⊥
@@ -85,7 +85,7 @@ NothingWritten s = s.now ≡ s.before
 
 -- nothing was written, or where the files are told, a front of the bus's text
 abbrev pub WrittenInPart : Stands → BusFiles → Type 0
-WrittenInPart s bus = NothingWritten s ⊎ IfSome s.files (λ fs. (text : List ℕ) × HasText fs bus text × AppendsFront s.before s.now text)
+WrittenInPart s bus = NothingWritten s ⊎ IfSome s.files (λ fs. (text : List ℕ) × HasText fs bus text × AppendsPrefix s.before s.now text)
 
 -- a decode of a bus ended so, with its cause and what was written
 abbrev pub EndsBus : Stands → BusFiles → Type 0 → Status → Type 0
@@ -93,8 +93,9 @@ EndsBus s bus failed status.Ok = IfSome s.files (λ fs. (text : List ℕ) × Has
 EndsBus s bus failed status.Usage = ⊥
 EndsBus s bus failed status.OpenFault = Rose s.opens.before s.opens.now × NothingWritten s
 EndsBus s bus failed (status.ReadFault None) = Rose s.reads.before s.reads.now × NothingWritten s
-EndsBus s bus failed (status.ReadFault (Some n)) = (n ≡ 0) × failed × NothingWritten s
-EndsBus s bus failed status.WriteFault = Rose s.writes.before s.writes.now × IfSome s.files (λ fs. (text : List ℕ) × HasText fs bus text × AppendsFront s.before s.now text)
+EndsBus s bus failed (status.ReadFault (Some n)) =
+    (n ≡ 0) × failed × NothingWritten s × IfSome s.files (λ fs. (database : Database) × HasDatabase fs bus database)
+EndsBus s bus failed status.WriteFault = Rose s.writes.before s.writes.now × IfSome s.files (λ fs. (text : List ℕ) × HasText fs bus text × AppendsPrefix s.before s.now text)
 EndsBus s bus failed status.Memory = WrittenInPart s bus
 EndsBus s bus failed (status.NotBuilt file line) =
     IfSome s.files (λ fs. ((file ≡ 1) × RefusesDatabase fs bus line) ⊎ ((file ≡ 2) × RefusesLogFile fs bus line)) × NothingWritten s

@@ -5,11 +5,15 @@ use Rattle.port_io.specs.Library.{named}
 use Rattle.bench_model.specs.declared.database.Kind.TheVariants as kind
 use Rattle.bench_model.specs.declared.database.Database.{Database}
 use Rattle.bench_model.specs.declared.database.Bench.{Bench}
-use Rattle.dbc_grammar.specs.Contract.{byte_limit, SpellsDatabase, IsRefusedAt}
+use Rattle.dbc_grammar.specs.Contract.{SpellsDatabase, IsRefusedAt}
 use Rattle.bench_server.specs.declared.log_file.Frame.{Frame}
 use Rattle.bench_server.specs.BenchFile.{BusFiles, IsBench, IsBenchFault}
 use Rattle.bench_server.specs.LogFile.{IsLog, IsLogFault}
 use Rattle.bench_server.specs.Decoded.{bus_text}
+
+-- how many bytes the bench file and the log may have
+abbrev pub file_limit : ℕ
+file_limit = 1048576
 
 -- the files of a library: names and bytes
 abbrev pub Files : Type 0
@@ -17,11 +21,11 @@ Files = List (List ℕ × List ℕ)
 
 -- the bytes are a bench file of this bus
 abbrev pub SpellsBench : List ℕ → BusFiles → Type 0
-SpellsBench bytes bus = (length bytes ≤ byte_limit) × IsBench (all_lines bytes) bus
+SpellsBench bytes bus = (length bytes ≤ file_limit) × IsBench (all_lines bytes) bus
 
 -- the bytes are a log of these frames
 abbrev pub SpellsLog : List ℕ → List Frame → Type 0
-SpellsLog bytes frames = (length bytes ≤ byte_limit) × IsLog (all_lines bytes) frames
+SpellsLog bytes frames = (length bytes ≤ file_limit) × IsLog (all_lines bytes) frames
 
 -- a bench of one CAN bus with this database
 abbrev pub bench_of : List ℕ → Database → Bench
@@ -45,7 +49,8 @@ pub record HasLog (files : Files) (bus : BusFiles) (frames : List Frame) : Type 
   pub file : named files bus.log ≡ Some bytes
   pub spelled : SpellsLog bytes frames
 
--- the text of `decode` of this bench file: the bus's start, its decoded list and its end
+-- the text of `decode` of this bench file: the bus's start where there is a record, its decoded list and
+-- its end
 pub record IsToolText (files : Files) (bench text : List ℕ) : Type 0 where
   pub bus : BusFiles
   pub database : Database
@@ -57,7 +62,7 @@ pub record IsToolText (files : Files) (bench text : List ℕ) : Type 0 where
 
 -- a file is refused at line 0 for its length, and else at its first faulty line
 abbrev pub RefusedAt : List ℕ → ℕ → (ℕ → Type 0) → Type 0
-RefusedAt bytes line IsFault = ((byte_limit < length bytes) × (line ≡ 0)) ⊎ ((length bytes ≤ byte_limit) × IsFault line)
+RefusedAt bytes line IsFault = ((file_limit < length bytes) × (line ≡ 0)) ⊎ ((length bytes ≤ file_limit) × IsFault line)
 
 -- the bench file is refused at this line
 pub record IsBenchRefused (files : Files) (bench : List ℕ) (line : ℕ) : Type 0 where

@@ -6,8 +6,8 @@ use Rattle.bench_server.specs.declared.status.Status.{Status}
 use Rattle.bench_server.specs.declared.status.Status.TheVariants as status
 
 -- a front of the text was appended
-abbrev pub AppendsFront : Option (List ℕ) → Option (List ℕ) → List ℕ → Type 0
-AppendsFront before now text = (sent : List ℕ) × (rest : List ℕ) × (sent ++ rest ≡ text) × (now ≡ append_known before sent)
+abbrev pub AppendsPrefix : Option (List ℕ) → Option (List ℕ) → List ℕ → Type 0
+AppendsPrefix before now text = (sent : List ℕ) × (rest : List ℕ) × (sent ++ rest ≡ text) × (now ≡ append_known before sent)
 
 -- a writer stops where the sink's count of faults rose, or for want of memory
 abbrev pub StopsWriting : ℕ → ℕ → Status → Type 0
@@ -18,6 +18,6 @@ StopsWriting faults faults_now other = ⊥
 -- the text was appended, or a front of it where writing stopped
 pub record WritesText (before now : Option (List ℕ)) (faults faults_now : ℕ) (result : Result (Unit {0}) Status) (text : List ℕ) : Type 0 where
   pub later : faults ≤ faults_now
-  pub front : AppendsFront before now text
+  pub front : AppendsPrefix before now text
   pub whole : OnOk result (now ≡ append_known before text)
   pub cause : IfErr result (StopsWriting faults faults_now)

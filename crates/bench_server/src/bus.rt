@@ -1,6 +1,6 @@
 //! One bus, decoded from its files to its text.
 
-ghost use Rattle.std.specs.Prelude.{◌≡◌, ◌≤◌, ◌<◌, [], ◌∷◌, length, vec_len, vec_capacity, true, IfOk, IfErr, IfSome, All, List, ℕ};
+ghost use Rattle.std.specs.Prelude.{◌≡◌, ◌≤◌, ◌<◌, [], ◌∷◌, length, vec_len, vec_capacity, true, IfOk, IfErr, IfSome, MatchResult, All, List, ℕ};
 ghost use Rattle.port_io.specs.Library.{named, strays_after};
 ghost use Rattle.bench_model.specs.Limits.{IsLawfulDatabase};
 ghost use Rattle.dbc_grammar.specs.Whole.{HasWholeScalings};
@@ -10,6 +10,7 @@ ghost use Rattle.bench_server.specs.WholeBench.{IsWholeBench};
 ghost use Rattle.bench_server.specs.Tool.{bench_of};
 ghost use Rattle.bench_server.specs.BusEnds.{ReadsDatabase, FailsAsDatabase, ReadsLog, FailsAsOpened, AreLogsOf, status_of, stands, HasBusFiles};
 ghost use Rattle.bench_server.specs.Ends.{HasFailed, EndsBus};
+ghost use Rattle.bench_server.specs.ToolEnds.{HasOpened};
 
 use crate::Status;
 use crate::bench_file::BusLine;
@@ -84,6 +85,7 @@ fn open_log<B: Library>(
     ensures fault { IfErr result (FailsAsOpened (B.files library.old) name.now
         (record { before = B.open_faults library.old; now = B.open_faults library.new }) (HasFailed B.Log.read_faults logs.new.items)) }
     ensures logs { AreLogsOf (B.files library.old) name.now B.Log.left B.Log.taken logs.new.items }
+    ensures opened { MatchResult result (λ _. length logs.new.items ≡ 1) (HasOpened (length logs.new.items)) }
 
     ensures opens { B.open_faults library.old ≤ B.open_faults library.new }
     ensures reads { B.more_faults library.new ≡ B.more_faults library.old }
@@ -113,6 +115,7 @@ pub(crate) fn decode<B: Library, K: Sink>(
     ensures ends { EndsBus (stands (B.files library.old) (B.open_faults library.old) (B.open_faults library.new) (B.more_faults library.old) (B.more_faults library.new)
         (K.write_faults out.old) (K.write_faults out.new) (K.written out.old) (K.written out.new)) (files_of bus.now) (HasFailed B.Log.read_faults logs.new.items) (status_of result) }
     ensures logs { AreLogsOf (B.files library.old) bus.now.log.now B.Log.left B.Log.taken logs.new.items }
+    ensures opened { HasOpened (length logs.new.items) (status_of result) }
 
     ensures opens { B.open_faults library.old ≤ B.open_faults library.new }
     ensures reads { B.more_faults library.old ≤ B.more_faults library.new }

@@ -3,9 +3,8 @@
 ghost use Rattle.std.specs.Prelude.{◌≡◌, ◌≤◌, true, length, Some, IfOk, IfErr, IfSome, List, ℕ};
 ghost use Rattle.port_io.specs.Library.{named, strays_after};
 ghost use Rattle.port_io.specs.Transfers.{Moves};
-ghost use Rattle.dbc_grammar.specs.Contract.{byte_limit};
 ghost use Rattle.bench_server.specs.BenchFile.{is_file_name};
-ghost use Rattle.bench_server.specs.Tool.{SpellsLog};
+ghost use Rattle.bench_server.specs.Tool.{SpellsLog, file_limit};
 ghost use Rattle.bench_server.specs.Ends.{FailsToRead, FailsAsLog};
 
 use crate::Status;
@@ -35,7 +34,7 @@ pub(crate) fn read_file<B: Library>(
     name: &str,
     file: u32,
 ) -> Result<Vec<u8>, Status>
-    ensures short { IfOk result (λ bytes. length bytes.items ≤ byte_limit) }
+    ensures short { IfOk result (λ bytes. length bytes.items ≤ file_limit) }
     ensures bytes { IfOk result (λ bytes. IfSome (B.files library.old) (λ files. named files name.now ≡ Some bytes.items)) }
     ensures fault { IfErr result (FailsToRead (B.files library.old) name.now file
         (record { before = B.open_faults library.old; now = B.open_faults library.new })

@@ -6,7 +6,8 @@
 //! Reading the bench file and the log, and the text of the items, are private parts of it.
 //!
 //! Main theorem: on success `run_tool` has appended to its output exactly the tool's text, a function of the
-//! bytes of the bench file, the database and the log alone, and every other status has its cause.
+//! bytes of the bench file, the database and the log alone, and every other status but want of memory has its
+//! cause.
 #![tactic(auto)]
 
 mod bench_file;
@@ -14,11 +15,16 @@ mod bus;
 mod decode;
 mod files;
 mod item_text;
+mod laws;
 mod log_file;
 mod report;
 mod status;
 mod tool;
 mod words;
 
+pub use laws::one_end;
 pub use status::Status;
 pub use tool::{Ran, run_tool};
+
+#[cfg(test)]
+mod tests;

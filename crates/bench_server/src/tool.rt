@@ -1,10 +1,10 @@
 //! The top call: what the program does for the words of its command line.
 
-ghost use Rattle.std.specs.Prelude.{◌≡◌, [], Some, IsNone, vec_len};
+ghost use Rattle.std.specs.Prelude.{◌≡◌, ◌≤◌, [], Some, length, vec_len};
 ghost use Rattle.bench_server.specs.Words.{bench_word};
 ghost use Rattle.bench_server.specs.WordView.{words_of};
 ghost use Rattle.bench_server.specs.BusEnds.{stands, status_of};
-ghost use Rattle.bench_server.specs.ToolEnds.{EndsTool, ReportsTool, AreToolLogs, HasToolFiles, ReportsLine, AreWordLogs, HasWordFiles};
+ghost use Rattle.bench_server.specs.ToolEnds.{EndsTool, ReportsTool, AreToolLogs, HasToolFiles, ReportsLine, AreWordLogs, HasWordFiles, AnswersExactly, HasOpened};
 ghost use Rattle.bench_server.specs.Ends.{HasFailed};
 ghost use Rattle.bench_server.specs.FaultLine.{fault_line, Reports};
 
@@ -59,6 +59,11 @@ fn run<B: Library, K: Sink, E: Sink>(
         (K.write_faults out.old) (K.write_faults out.new) (K.written out.old) (K.written out.new)) (Some bench.now) (HasFailed B.Log.read_faults logs.new.items) result }
     ensures line { ReportsTool (B.files library.old) bench.now (E.written err.old) (E.written err.new) (E.write_faults err.old) (E.write_faults err.new) result }
     ensures logs { AreToolLogs (B.files library.old) bench.now B.Log.left B.Log.taken logs.new.items }
+    ensures opened { HasOpened (length logs.new.items) result }
+    ensures opens { B.open_faults library.old ≤ B.open_faults library.new }
+    ensures reads { B.more_faults library.old ≤ B.more_faults library.new }
+    ensures writes { K.write_faults out.old ≤ K.write_faults out.new }
+    ensures files { B.files library.new ≡ B.files library.old }
     ensures strays { HasToolFiles (B.files library.old) bench.now → B.strays library.new ≡ B.strays library.old }
 {
     let Ok(()) = logs.reserve(1) else {
@@ -77,8 +82,37 @@ fn run<B: Library, K: Sink, E: Sink>(
     status
 }
 
-/// What the program does for the words of its command line: `decode BENCH`. It writes to `out` the text of
-/// the bus that the bench file names, and to `err` the line of any other status than success.
+/// The status of the run for these words, with the logs that were opened.
+fn answer<B: Library, K: Sink, E: Sink>(
+    alloc: Global,
+    words: &[String],
+    library: &mut B,
+    out: &mut K,
+    err: &mut E,
+    logs: &mut Vec<B::Log>,
+) -> Status
+    requires none { logs.old.items ≡ [] }
+    requires empty { vec_len logs.old ≡ 0 }
+    ensures ends { EndsTool (stands (B.files library.old) (B.open_faults library.old) (B.open_faults library.new) (B.more_faults library.old) (B.more_faults library.new)
+        (K.write_faults out.old) (K.write_faults out.new) (K.written out.old) (K.written out.new)) (bench_word (words_of words.now)) (HasFailed B.Log.read_faults logs.new.items) result }
+    ensures line { ReportsLine (B.files library.old) (bench_word (words_of words.now)) (E.written err.old) (E.written err.new) (E.write_faults err.old) (E.write_faults err.new) result }
+    ensures logs { AreWordLogs (B.files library.old) (bench_word (words_of words.now)) B.Log.left B.Log.taken logs.new.items }
+    ensures opened { HasOpened (length logs.new.items) result }
+    ensures opens { B.open_faults library.old ≤ B.open_faults library.new }
+    ensures reads { B.more_faults library.old ≤ B.more_faults library.new }
+    ensures writes { K.write_faults out.old ≤ K.write_faults out.new }
+    ensures files { B.files library.new ≡ B.files library.old }
+    ensures strays { HasWordFiles (B.files library.old) (bench_word (words_of words.now)) → B.strays library.new ≡ B.strays library.old }
+{
+    match bench_word(words) {
+        Some(bench) => run(alloc, bench, library, out, err, logs),
+        None => stop(err, Status::Usage),
+    }
+}
+
+/// What the program does for the words of its command line, of which this version takes `decode BENCH`: it
+/// appends to `out` the text of the bus that the bench file names, and to `err` the line of any status but
+/// success.
 pub fn run_tool<B: Library, K: Sink, E: Sink>(
     alloc: Global,
     words: &[String],
@@ -90,18 +124,22 @@ pub fn run_tool<B: Library, K: Sink, E: Sink>(
     // database and the log alone; each other status has its cause, and says what was written.
     ensures ends { EndsTool (stands (B.files library.old) (B.open_faults library.old) (B.open_faults library.new) (B.more_faults library.old) (B.more_faults library.new)
         (K.write_faults out.old) (K.write_faults out.new) (K.written out.old) (K.written out.new)) (bench_word (words_of words.now)) (HasFailed B.Log.read_faults result.logs) result.status }
+    // A refused form is named exactly, and no lawful one is refused.
+    ensures exact { AnswersExactly (B.files library.old) (bench_word (words_of words.now)) result.status }
     // The status's line was appended to `err`, or a front of it where that sink's count of faults rose.
     ensures line { ReportsLine (B.files library.old) (bench_word (words_of words.now)) (E.written err.old) (E.written err.new) (E.write_faults err.old) (E.write_faults err.new) result.status }
 
     // The logs that were opened stand as they were left, and no file was opened that nobody named.
     ensures logs { AreWordLogs (B.files library.old) (bench_word (words_of words.now)) B.Log.left B.Log.taken result.logs }
+    ensures opened { HasOpened (length result.logs) result.status }
+    ensures opens { B.open_faults library.old ≤ B.open_faults library.new }
+    ensures reads { B.more_faults library.old ≤ B.more_faults library.new }
+    ensures writes { K.write_faults out.old ≤ K.write_faults out.new }
+    ensures files { B.files library.new ≡ B.files library.old }
     ensures strays { HasWordFiles (B.files library.old) (bench_word (words_of words.now)) → B.strays library.new ≡ B.strays library.old }
 {
     let mut logs = Vec::new(alloc);
-    let status = match bench_word(words) {
-        Some(bench) => run(alloc, bench, library, out, err, &mut logs),
-        None => stop(err, Status::Usage),
-    };
+    let status = answer(alloc, words, library, out, err, &mut logs);
     Ran {
         status,
         logs: List::of(logs),

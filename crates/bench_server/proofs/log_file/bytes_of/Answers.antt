@@ -1,5 +1,5 @@
 use Rattle.std.proofs.Common.{◌∙◌, sym, ap, Some, eqb-true}
-use Rattle.bench_server.proofs.Tests.{not_zero}
+use Rattle.bench_server.proofs.Guards.{not_zero}
 use Rattle.bench_server.proofs.ByteLaws.{byte_at-shorter, none_left, one_more, all_read}
 use Rattle.bench_server.proofs.log_file.bytes_of.Goals as goal
 
