@@ -2,7 +2,7 @@
 # Times `tokens` in a built program on two texts of 16 MiB: one-byte tokens alone, and one string.
 # Each must take less than two seconds, with the start of the program and the reading of the text.
 set -euo pipefail
-crate="$(cd "$(dirname "$0")/.." && pwd)"
+crate="$(cd "$(dirname "$0")/../crates/sig_text" && pwd)"
 work="$(mktemp -d)"
 trap 'rm -rf "$work"' EXIT
 size=$((16 * 1024 * 1024))
