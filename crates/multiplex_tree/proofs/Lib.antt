@@ -1,0 +1,3 @@
+pub mod ClaimLemmas
+pub mod ParentLemmas
+pub mod ChainLemmas
