@@ -1,19 +1,22 @@
 -- How far chains of parents reach.
-use Rattle.std.proofs.Common.{◌≡◌, ℕ, zero, suc, ◌+◌, ◌<◌, ◌≤◌, List, [], ◌∷◌, length, get_or, Bool, true, false, Option, Some, None, refl, ap, sym, ◌∙◌, arith, add-one, ◌⊎◌, inl, inr, map, ◌*◌, ◌-◌, below_more}
+use Rattle.std.proofs.Common.{◌≡◌, ℕ, zero, suc, ◌+◌, ◌<◌, ◌≤◌, List, [], ◌∷◌, length, Bool, true, false, Option, Some, None, refl, ap, sym, ◌∙◌, arith, add-zero, ◌⊎◌, inl, inr, map, ◌*◌, ◌-◌, below_more}
 use Rattle.std.proofs.Math.Nat.{eq-or-lt_of_le}
 use Rattle.std.proofs.lemmas.Bool.Decides.{leb_tells}
 use Rattle.std.proofs.lemmas.List.{length-map}
-use Rattle.std.specs.Option.{is_some, is_none, IsSome, IsNone, option_flatten, option_and_then}
+use Rattle.std.specs.Option.{is_some, IsNone, option_flatten, option_and_then}
 use Rattle.std.specs.Prelude.{slice_get}
-use Rattle.multiplex_tree.specs.Chain.{parent_in, next_up, ancestor, NeverEnds, Ends, AreAncestors}
+use Rattle.multiplex_tree.specs.Chain.{parent_in, next_up, ancestor, NeverEnds, AreAncestors, AreFarAbove, IsFirstSome}
+use Rattle.multiplex_tree.specs.Fault.{IsFirstCycle}
 
 -- some steps at the foot of a chain and the rest
 pub ancestor-add : (ups : List (Option ℕ)) (a b i : ℕ) → ancestor ups (a + b) i ≡ option_and_then (ancestor ups b) (ancestor ups a i)
 unfolding ancestor
-ancestor-add ups a zero i = elim (ancestor ups a i) as (λ (o : Option ℕ). o ≡ option_and_then (λ j. Some j) o) [ None ↦ refl | Some j ↦ refl ]
+ancestor-add ups a zero i =
+    rw add-zero (elim (ancestor ups a i) as (λ (o : Option ℕ). o ≡ option_and_then (λ j. Some j) o) [ None ↦ refl | Some j ↦ refl ])
 ancestor-add ups a (suc b) i =
-    ap (next_up ups) (ancestor-add ups a b i)
-    ∙ (elim (ancestor ups a i) as (λ (o : Option ℕ). next_up ups (option_and_then (ancestor ups b) o) ≡ option_and_then (λ j. next_up ups (ancestor ups b j)) o) [ None ↦ refl | Some j ↦ refl ])
+    let more : a + suc b ≡ suc (a + b) = omega arith in
+    rw more (ap (next_up ups) (ancestor-add ups a b i)
+    ∙ (elim (ancestor ups a i) as (λ (o : Option ℕ). next_up ups (option_and_then (ancestor ups b) o) ≡ option_and_then (λ j. next_up ups (ancestor ups b j)) o) [ None ↦ refl | Some j ↦ refl ]))
 
 -- the first step
 pub ancestor-first : (ups : List (Option ℕ)) (n i : ℕ) → ancestor ups (suc n) i ≡ option_and_then (ancestor ups n) (parent_in ups i)
@@ -100,7 +103,7 @@ count-some : (p : ℕ → Bool) (n i : ℕ) → i < n → p i ≡ true → 1 ≤
 unfolding count one_if
 count-some p zero i h e = absurd (omega arith)
 count-some p (suc n) i h e =
-    elim eq-or-lt_of_le (let k : i ≤ n = omega arith in k) [
+    elim (eq-or-lt_of_le (let k : i ≤ n = omega arith in k)) [
     inl same ↦ (let here : p n ≡ true = rw (← same) e in rw here (omega arith))
     | inr less ↦ omega (arith, count-some p n i less e)
     ]
@@ -205,3 +208,13 @@ ancestors-twice ups far twice m h e = record {
 pub ancestors-one : (ups : List (Option ℕ)) → AreAncestors ups 1 ups
 unfolding ancestor
 ancestors-one ups = record { number = refl; each = λ i. refl }
+
+-- the first signal that has one so far above it is the first whose chain never ends
+pub first_cycle : (ups far read : List (Option ℕ)) (signal : ℕ) → read ≡ far → AreFarAbove ups far → IsFirstSome (length read) (parent_in read) signal → IsFirstCycle ups signal
+first_cycle ups far read signal same h found =
+    let there : reaches ups h.steps signal ≡ true = rw (← h.are_ancestors.each signal) (rw (← same) found.here) in
+    record {
+      within = rw (← h.are_ancestors.number) (rw (← same) found.within);
+      endless = never_ends ups h.steps signal h.many there;
+      first = λ i less. (h.steps, rw (← h.are_ancestors.each i) (rw (← same) (found.first i less)));
+    }

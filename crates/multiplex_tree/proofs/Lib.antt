@@ -1,3 +1,4 @@
 pub mod ClaimLemmas
 pub mod ParentLemmas
 pub mod ChainLemmas
+pub mod ActivityLemmas

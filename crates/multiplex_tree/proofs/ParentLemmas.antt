@@ -13,7 +13,7 @@ use Rattle.multiplex_tree.specs.declared.fault.MuxFault.TheVariants.{At}
 use Rattle.multiplex_tree.specs.declared.mark.Mark.{Mark}
 use Rattle.multiplex_tree.specs.declared.mark.Link.{Link}
 use Rattle.multiplex_tree.specs.declared.mark.Parent.{Parent}
-use Rattle.multiplex_tree.specs.Parents.{is_selector, selectors_from, only, parent_of_group, claimed_parent, some_parent, marked_parent, group_at, parent_by_rules, links_to, claim_of, is_multiplexor}
+use Rattle.multiplex_tree.specs.Parents.{is_selector, selectors_from, only, parent_of_group, some_parent, marked_parent, group_at, parent_by_rules, links_to, claim_of}
 use Rattle.multiplex_tree.specs.Fault.{IsFirstUnclear, IsFault}
 
 -- the selectors from a mark on

@@ -1,5 +1,5 @@
 -- What `resolve` answers: the tree where no signal has a fault, else the first fault by its kind.
-use Rattle.std.specs.Prelude.{◌≡◌, ℕ, ◌<◌, List, length, Option, Result, Ok, Err, IsOk, IsNone}
+use Rattle.std.specs.Prelude.{◌≡◌, ℕ, ◌<◌, List, length, Option, Err, IsOk, IsNone}
 use Rattle.multiplex_tree.specs.declared.fault.MuxWhy.{MuxWhy}
 use Rattle.multiplex_tree.specs.declared.fault.MuxWhy.TheVariants.{NoParent, Ambiguous, Cycle, Deep}
 use Rattle.multiplex_tree.specs.declared.fault.MuxFault.{MuxFault}

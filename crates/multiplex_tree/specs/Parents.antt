@@ -1,5 +1,5 @@
 -- The parent of each signal, after extended multiplexing in the DBC format: multiplexer indicators and SG_MUL_VAL_.
-use Rattle.std.specs.Prelude.{◌≡◌, ℕ, ◌+◌, ◌<◌, ◌==◌, ◌&&◌, Bool, true, false, not, List, [], ◌∷◌, filter, length, Option, Some, None, is_none, Result, Ok, Err, slice_get, slice_index_or, option_and_then, if◌then◌else◌}
+use Rattle.std.specs.Prelude.{◌≡◌, ℕ, ◌+◌, ◌<◌, ◌==◌, ◌&&◌, Bool, true, false, List, [], ◌∷◌, filter, length, Option, Some, None, is_none, Result, Ok, Err, slice_get, slice_index_or, option_and_then, if◌then◌else◌}
 use Rattle.std.specs.List.{list_all, flat_map}
 use Rattle.multiplex_tree.specs.declared.claim.Claim.{Claim}
 use Rattle.multiplex_tree.specs.declared.claim.Claim.TheVariants.{Unlinked, Linked, Torn}

@@ -17,9 +17,9 @@ mod mark;
 mod parents;
 //cfgtest
 //mod tests;
-//mod tree;
+mod tree;
 
 pub use fault::{MuxFault, MuxWhy};
 pub use list::List;
 pub use mark::{Link, Mark, Parent, Range};
-//pub use tree::{Tree, resolve};
+pub use tree::{Tree, resolve};

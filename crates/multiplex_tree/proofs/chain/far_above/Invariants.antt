@@ -1,4 +1,4 @@
-use Rattle.std.proofs.Common.{ℕ, ◌≤◌, ◌-◌, length}
+use Rattle.std.proofs.Common.{◌≤◌, ◌-◌, length}
 use Rattle.multiplex_tree.specs.Chain.{AreAncestors}
 use Rattle.multiplex_tree.proofs.chain.far_above.Given as goal
 

@@ -1,4 +1,4 @@
-use Rattle.std.proofs.Common.{◌≡◌, ◌≢◌, ◌+◌, ◌<◌, length, get_or, get_or-set_other, refl, sym, ◌∙◌, arith}
+use Rattle.std.proofs.Common.{◌≢◌, get_or-set_other, refl, ◌∙◌, arith}
 use Rattle.multiplex_tree.proofs.ParentLemmas.{rule_here, fault_of_unclear, parents-more, length-more}
 use Rattle.std.proofs.Math.ListN.{length-set}
 use Rattle.multiplex_tree.proofs.parents.parents_of.Goals as goal

@@ -1,4 +1,4 @@
-use Rattle.std.proofs.Common.{◌≡◌, ◌∙◌, ◌++◌, ap, sym, List, ℕ}
+use Rattle.std.proofs.Common.{◌∙◌, ◌++◌, ap, sym, List, ℕ}
 use Rattle.std.specs.Option.{option_to_list}
 use Rattle.multiplex_tree.specs.Parents.{only}
 use Rattle.multiplex_tree.proofs.ParentLemmas.{selectors-here, selectors-past, selectors-end, first_selector, two_selectors, one_selector}
