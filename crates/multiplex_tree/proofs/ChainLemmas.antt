@@ -104,8 +104,8 @@ unfolding count one_if
 count-some p zero i h e = absurd (omega arith)
 count-some p (suc n) i h e =
     elim (eq-or-lt_of_le (let k : i ≤ n = omega arith in k)) [
-    inl same ↦ (let here : p n ≡ true = rw (← same) e in rw here (omega arith))
-    | inr less ↦ omega (arith, count-some p n i less e)
+      | inl same ↦ (let here : p n ≡ true = rw (← same) e in rw here (omega arith))
+      | inr less ↦ omega (arith, count-some p n i less e)
     ]
 
 -- each of the first n numbers that passes one test passes another
@@ -133,15 +133,15 @@ unfolding count
 same_or_fewer p q f zero = inl (λ i h e. absurd (omega arith))
 same_or_fewer p q f (suc n) =
     elim (same_or_fewer p q f n) [
-    inl same ↦ same_or_fewer-suc p q n same (last_one (p n) (q n) (count p n) (count q n) (count-mono p q f n))
-    | inr fewer ↦ inr (omega (arith, one_if-le (p n) (q n) (f n)))
+      | inl same ↦ same_or_fewer-suc p q n same (last_one (p n) (q n) (count p n) (count q n) (count-mono p q f n))
+      | inr fewer ↦ inr (omega (arith, one_if-le (p n) (q n) (f n)))
     ]
 
 stays_of_same : (ups : List (Option ℕ)) (n : ℕ) → Same (reaches ups (suc n)) (reaches ups (suc (suc n))) (length ups) → Stays ups (suc n)
 stays_of_same ups n same i h =
     elim (leb_tells (length ups) i) [
-    inl past ↦ (let none : reaches ups (suc n) i ≡ false = past_reaches ups n i past.1 in absurd (let e : false ≡ true = sym none ∙ h in cc))
-    | inr within ↦ same i within.1 h
+      | inl past ↦ (let none : reaches ups (suc n) i ≡ false = past_reaches ups n i past.1 in absurd (let e : false ≡ true = sym none ∙ h in cc))
+      | inr within ↦ same i within.1 h
     ]
 
 stays_from : (ups : List (Option ℕ)) (n : ℕ) → Same (reaches ups (suc n)) (reaches ups (suc (suc n))) (length ups) ⊎ (count (reaches ups (suc (suc n))) (length ups) + 1 ≤ count (reaches ups (suc n)) (length ups)) →
@@ -155,15 +155,15 @@ stays_or_few : (ups : List (Option ℕ)) (n : ℕ) → ((j : ℕ) × (j ≤ n) �
 stays_or_few ups zero = inr (omega (arith, count-le (reaches ups (suc zero)) (length ups)))
 stays_or_few ups (suc n) =
     elim (stays_or_few ups n) [
-    inl found ↦ inl (found.0, omega (arith, found.1), found.2)
-    | inr few ↦ stays_from ups n (same_or_fewer (reaches ups (suc n)) (reaches ups (suc (suc n))) (reaches-pred ups (suc n)) (length ups)) few
+      | inl found ↦ inl (found.0, omega (arith, found.1), found.2)
+      | inr few ↦ stays_from ups n (same_or_fewer (reaches ups (suc n)) (reaches ups (suc (suc n))) (reaches-pred ups (suc n)) (length ups)) few
     ]
 
 within_of_reach : (ups : List (Option ℕ)) (n i : ℕ) → reaches ups (suc n) i ≡ true → i < length ups
 within_of_reach ups n i h =
     elim (leb_tells (length ups) i) [
-    inl past ↦ (let none : reaches ups (suc n) i ≡ false = past_reaches ups n i past.1 in absurd (let e : false ≡ true = sym none ∙ h in cc))
-    | inr within ↦ within.1
+      | inl past ↦ (let none : reaches ups (suc n) i ≡ false = past_reaches ups n i past.1 in absurd (let e : false ≡ true = sym none ∙ h in cc))
+      | inr within ↦ within.1
     ]
 
 -- a chain with more parents than there are signals never ends
@@ -173,12 +173,12 @@ never_ends ups m i h far k =
     let split : (m - suc n) + suc n ≡ m = omega arith in
     let here : reaches ups (suc n) i ≡ true = reaches-less ups (suc n) (m - suc n) i (rw split far) in
     elim (stays_or_few ups n) [
-    inl found ↦ (
-    let back : (n - found.0) + suc found.0 ≡ suc n = omega (arith, found.1) in
-    let low : reaches ups (suc found.0) i ≡ true = reaches-less ups (suc found.0) (n - found.0) i (rw back here) in
-    let turned : k + suc found.0 ≡ suc found.0 + k = omega arith in
-    reaches-less ups k (suc found.0) i (rw turned at (reaches-on ups (suc found.0) k i found.2 low)))
-    | inr few ↦ absurd (omega (arith, few, count-some (reaches ups (suc n)) n i (within_of_reach ups n i here) here))
+      | inl found ↦ (
+          let back : (n - found.0) + suc found.0 ≡ suc n = omega (arith, found.1) in
+          let low : reaches ups (suc found.0) i ≡ true = reaches-less ups (suc found.0) (n - found.0) i (rw back here) in
+          let turned : k + suc found.0 ≡ suc found.0 + k = omega arith in
+          reaches-less ups k (suc found.0) i (rw turned at (reaches-on ups (suc found.0) k i found.2 low)))
+      | inr few ↦ absurd (omega (arith, few, count-some (reaches ups (suc n)) n i (within_of_reach ups n i here) here))
     ]
 
 -- nothing stands above a signal that is not there
@@ -200,8 +200,8 @@ pub ancestors-twice : (ups far twice : List (Option ℕ)) (m : ℕ) → AreAnces
 ancestors-twice ups far twice m h e = record {
   number = rw e (simp length-map h.number);
   each = λ i. rw e (
-    flatten-map (next_up far) refl far i ∙ ap (next_up far) (h.each i) ∙ next-ancestor ups far m h.each (ancestor ups m i)
-    ∙ sym (ancestor-add ups m m i) ∙ ap (λ (n : ℕ). ancestor ups n i) (let double : m + m ≡ m * 2 = omega arith in double));
+      flatten-map (next_up far) refl far i ∙ ap (next_up far) (h.each i) ∙ next-ancestor ups far m h.each (ancestor ups m i)
+      ∙ sym (ancestor-add ups m m i) ∙ ap (λ (n : ℕ). ancestor ups n i) (let double : m + m ≡ m * 2 = omega arith in double));
 }
 
 -- the parents themselves are one step above

@@ -61,7 +61,11 @@ fn unlinked(alloc: Global, count: usize) -> Result<Vec<Claim>, AllocError>
 }
 
 /// What the links to each of `count` signals say together.
-pub(crate) fn claims_of(alloc: Global, count: usize, links: &[Link]) -> Result<Vec<Claim>, AllocError>
+pub(crate) fn claims_of(
+    alloc: Global,
+    count: usize,
+    links: &[Link],
+) -> Result<Vec<Claim>, AllocError>
     requires { All (λ l. l.child < count) links.now }
     ensures len { IfOk result (λ claims. vec_len claims ≡ count) }
     ensures each { IfOk result (λ claims. (i : ℕ) → slice_index_or claims.items i Unlinked ≡ claim_of (links_to i links.now)) }

@@ -15,8 +15,8 @@ mod fault;
 mod list;
 mod mark;
 mod parents;
-//cfgtest
-//mod tests;
+#[cfg(test)]
+mod tests;
 mod tree;
 
 pub use fault::{MuxFault, MuxWhy};

@@ -57,10 +57,12 @@ fn claimed(
         Claim::Unlinked => match selector {
             Ok(signal) => Ok(Ok(Parent {
                 signal,
-                ranges: List::of(vec![in alloc; Range {
-                    low: group,
-                    high: group,
-                }]?),
+                ranges: List::of(vec![in alloc;
+                    Range {
+                        low: group,
+                        high: group,
+                    },
+                ]?),
             })),
             Err(why) => Ok(Err(why)),
         },

@@ -19,7 +19,10 @@ pub struct Tree {
 }
 
 /// The signals that are the parents.
-fn signals_above(alloc: Global, parents: &[Option<Parent>]) -> Result<Vec<Option<usize>>, AllocError>
+fn signals_above(
+    alloc: Global,
+    parents: &[Option<Parent>],
+) -> Result<Vec<Option<usize>>, AllocError>
     ensures { IfOk result (λ above. above.items ≡ signals_of parents.now) }
 {
     parents

@@ -13,7 +13,7 @@ pub loop-steps-preserved : goal.loop-steps-preserved
 loop-steps-preserved c = record {
   some = omega (arith, c.loop-steps.invariant.some);
   far = ancestors-twice c.args.parents.now c.loop-steps.far.items _ c.loop-steps.steps c.loop-steps.invariant.far
-    (c.in_ok-far-2.ensures ∙ ap (λ (far : List (Option ℕ)). map (next_up far) far) c.as_slice.ensures.value);
+      (c.in_ok-far-2.ensures ∙ ap (λ (far : List (Option ℕ)). map (next_up far) far) c.as_slice.ensures.value);
 }
 
 pub returns : goal.returns
@@ -21,5 +21,5 @@ returns c = record {
   steps = c.loop-steps.steps * 2;
   many = omega arith;
   are_ancestors = ancestors-twice c.args.parents.now c.loop-steps.far.items _ c.loop-steps.steps c.loop-steps.invariant.far
-    (c.in_ok-farthest.ensures ∙ ap (λ (far : List (Option ℕ)). map (next_up far) far) c.as_slice-2.ensures.value);
+      (c.in_ok-farthest.ensures ∙ ap (λ (far : List (Option ℕ)). map (next_up far) far) c.as_slice-2.ensures.value);
 }

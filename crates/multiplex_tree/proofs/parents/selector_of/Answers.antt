@@ -19,11 +19,11 @@ returns c =
 pub loop-signal-preserved : goal.loop-signal-preserved
 loop-signal-preserved c =
     elim c.if-is_selector.branch [
-    then-is_selector+else-is_some w ↦ rw w.found-is
-    (c.loop-signal.invariant ∙ ap (λ (xs : List ℕ). option_to_list c.loop-signal.found ++ xs)
-    (selectors-here c.args.marks.now c.loop-signal.signal _ c.loop-signal-test.true (sym w.if-is_selector.ensures))
-    ∙ first_selector _ _ _ w.if-is_some.ensures)
-    | else-is_selector w ↦ rw w.found-is
-    (c.loop-signal.invariant ∙ ap (λ (xs : List ℕ). option_to_list c.loop-signal.found ++ xs)
-    (selectors-past c.args.marks.now c.loop-signal.signal _ c.loop-signal-test.true (sym w.if-is_selector.ensures)))
+      | then-is_selector+else-is_some w ↦ rw w.found-is
+          (c.loop-signal.invariant ∙ ap (λ (xs : List ℕ). option_to_list c.loop-signal.found ++ xs)
+          (selectors-here c.args.marks.now c.loop-signal.signal _ c.loop-signal-test.true (sym w.if-is_selector.ensures))
+          ∙ first_selector _ _ _ w.if-is_some.ensures)
+      | else-is_selector w ↦ rw w.found-is
+          (c.loop-signal.invariant ∙ ap (λ (xs : List ℕ). option_to_list c.loop-signal.found ++ xs)
+          (selectors-past c.args.marks.now c.loop-signal.signal _ c.loop-signal-test.true (sym w.if-is_selector.ensures)))
     ]
