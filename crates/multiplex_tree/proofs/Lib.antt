@@ -2,3 +2,4 @@ pub mod ClaimLemmas
 pub mod ParentLemmas
 pub mod ChainLemmas
 pub mod ActivityLemmas
+pub mod UniqueLemmas

@@ -22,4 +22,4 @@ mod tree;
 pub use fault::{MuxFault, MuxWhy};
 pub use list::List;
 pub use mark::{Link, Mark, Parent, Range};
-pub use tree::{Tree, resolve};
+pub use tree::{Tree, resolution_is_unique, resolve};

@@ -1,8 +1,13 @@
 //! The tree of parents of a message's signals, and which signals are active in it.
 
-ghost use Rattle.std.specs.Prelude.{◌≡◌, ◌<◌, ◌↔◌, IsTrue, IfOk, IfErr, All, length, slice_get};
+ghost use Rattle.std.specs.Prelude.{◌≡◌, ℕ, ◌<◌, ◌↔◌, List, Option, IsTrue, IfOk, IfErr, All, length, slice_get};
 ghost use Rattle.std.specs.List.{list_any};
 ghost use Rattle.std.specs.Option.{option_copied, option_flatten};
+ghost use Rattle.multiplex_tree.specs.declared.fault.MuxWhy.{MuxWhy};
+ghost use Rattle.multiplex_tree.specs.declared.fault.MuxFault.TheVariants.{At};
+ghost use Rattle.multiplex_tree.specs.declared.mark.Mark.{Mark};
+ghost use Rattle.multiplex_tree.specs.declared.mark.Link.{Link};
+ghost use Rattle.multiplex_tree.specs.declared.mark.Parent.{Parent};
 ghost use Rattle.multiplex_tree.specs.Chain.{signals_above as signals_of, IsShallow};
 ghost use Rattle.multiplex_tree.specs.Fault.{IsTree, IsFault};
 ghost use Rattle.multiplex_tree.specs.Activity.{is_in_range as lies_in, parent_at as parent_in_tree, selects, is_active, IsActive};
@@ -60,6 +65,16 @@ pub fn resolve(alloc: Global, marks: &[Mark], links: &[Link]) -> Result<Tree, Mu
         Err(fault) => Err(fault),
     }
 }
+
+/// Marks and links have one tree, or else one fault.
+pub fn resolution_is_unique()
+    ensures tree { (marks : List Mark) (links : List Link) (a b : List (Option Parent)) →
+        IsTree marks links a → IsTree marks links b → a ≡ b }
+    ensures fault { (marks : List Mark) (links : List Link) (s t : ℕ) (why because : MuxWhy) →
+        IsFault marks links (At s why) → IsFault marks links (At t because) → (s ≡ t) × (why ≡ because) }
+    ensures never_both { (marks : List Mark) (links : List Link) (a : List (Option Parent)) (s : ℕ) (why : MuxWhy) →
+        IsTree marks links a → ¬ IsFault marks links (At s why) }
+{}
 
 /// Whether a raw value lies in a range.
 fn is_in_range(raw: i128, range: &Range) -> bool
