@@ -1,0 +1,5 @@
+pub mod ClaimLemmas
+pub mod ParentLemmas
+pub mod ChainLemmas
+pub mod ActivityLemmas
+pub mod UniqueLemmas

@@ -1,0 +1,11 @@
+use Rattle.multiplex_tree.proofs.UniqueLemmas.{same_tree, same_fault, tree_without_fault}
+use Rattle.multiplex_tree.proofs.tree.resolution_is_unique.Goals as goal
+
+pub returns-clause-tree : goal.returns-clause-tree
+returns-clause-tree c = same_tree
+
+pub returns-clause-fault : goal.returns-clause-fault
+returns-clause-fault c = same_fault
+
+pub returns-clause-never_both : goal.returns-clause-never_both
+returns-clause-never_both c = tree_without_fault

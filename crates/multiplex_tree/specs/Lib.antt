@@ -1,0 +1,4 @@
+pub mod Parents
+pub mod Chain
+pub mod Activity
+pub mod Fault

@@ -1,0 +1,25 @@
+//! Which signals of a message are active: extended multiplexing as the DBC format means it.
+//!
+//! A signal's mark says whether it selects others, a multiplexor, and in which group of values it stands; links
+//! (`SG_MUL_VAL_`) name a parent with ranges. The readers of database files hand both to `resolve` and keep the
+//! tree that it makes; the decoders ask `Tree::active`. The crate stands on no other of the repository.
+//!
+//! The theorem: `resolve` answers the tree of parents exactly where every signal's parent is clear and at most 8
+//! parents stand above each, else the first fault, unless memory runs out; and `Tree::active` says exactly
+//! whether every parent above a signal is open for the one below it.
+#![tactic(auto)]
+
+mod chain;
+mod claim;
+mod fault;
+mod list;
+mod mark;
+mod parents;
+#[cfg(test)]
+mod tests;
+mod tree;
+
+pub use fault::{MuxFault, MuxWhy};
+pub use list::List;
+pub use mark::{Link, Mark, Parent, Range};
+pub use tree::{Tree, resolution_is_unique, resolve};

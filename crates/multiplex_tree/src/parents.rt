@@ -1,0 +1,132 @@
+//! The parent of each signal by the rules of multiplexing.
+
+ghost use Rattle.std.specs.Prelude.{◌≡◌, ◌<◌, IfOk, IfErr, All, slice_get, length};
+ghost use Rattle.multiplex_tree.specs.Parents.{is_selector as selects, is_multiplexor, only, selectors, claimed_parent, marked_parent, AreParents};
+ghost use Rattle.multiplex_tree.specs.Fault.{IsFault};
+
+use crate::claim::{Claim, claims_of};
+use crate::{Link, List, Mark, MuxFault, MuxWhy, Parent, Range};
+use std::alloc::{AllocError, Global};
+use std::mem;
+
+/// Whether a mark is that of a multiplexor without group.
+fn is_selector(mark: &Mark) -> bool
+    ensures { result ≡ selects mark.now }
+{
+    mark.multiplexor && mark.group.is_none()
+}
+
+/// The one multiplexor without group.
+fn selector_of(marks: &[Mark]) -> Result<usize, MuxWhy>
+    ensures { result ≡ only (selectors marks.now) }
+{
+    let mut found = None;
+    for (signal, mark) in marks.iter().enumerate() {
+        if is_selector(mark) {
+            if found.is_some() {
+                return Err(MuxWhy::Ambiguous);
+            }
+            found = Some(signal);
+        }
+    }
+    found.ok_or(MuxWhy::NoParent)
+}
+
+/// Whether the signal is there and is a multiplexor.
+fn is_parent(marks: &[Mark], signal: usize) -> bool
+    ensures { result ≡ is_multiplexor (slice_get marks.now signal) }
+{
+    match marks.get(signal) {
+        Some(mark) => mark.multiplexor,
+        None => false,
+    }
+}
+
+/// The parent of a signal in `group` whose links claim this.
+fn claimed(
+    alloc: Global,
+    marks: &[Mark],
+    selector: Result<usize, MuxWhy>,
+    group: u64,
+    claim: Claim,
+) -> Result<Result<Parent, MuxWhy>, AllocError>
+    requires { selector ≡ only (selectors marks.now) }
+    ensures { IfOk result (λ found. found ≡ claimed_parent marks.now group claim) }
+{
+    match claim {
+        Claim::Unlinked => match selector {
+            Ok(signal) => Ok(Ok(Parent {
+                signal,
+                ranges: List::of(vec![in alloc;
+                    Range {
+                        low: group,
+                        high: group,
+                    },
+                ]?),
+            })),
+            Err(why) => Ok(Err(why)),
+        },
+        Claim::Linked {
+            parent: Some(signal),
+            ranges,
+        } => {
+            if is_parent(marks, signal) {
+                Ok(Ok(Parent { signal, ranges }))
+            } else {
+                Ok(Err(MuxWhy::NoParent))
+            }
+        }
+        Claim::Linked { parent: None, .. } => Ok(Err(MuxWhy::NoParent)),
+        Claim::Torn => Ok(Err(MuxWhy::Ambiguous)),
+    }
+}
+
+/// The parent of a signal with this mark whose links claim this, or none where it has no group.
+fn parent_of(
+    alloc: Global,
+    marks: &[Mark],
+    selector: Result<usize, MuxWhy>,
+    mark: &Mark,
+    claim: Claim,
+) -> Result<Result<Option<Parent>, MuxWhy>, AllocError>
+    requires { selector ≡ only (selectors marks.now) }
+    ensures { IfOk result (λ found. found ≡ marked_parent marks.now claim mark.now.group) }
+{
+    match mark.group {
+        None => Ok(Ok(None)),
+        Some(group) => match claimed(alloc, marks, selector, group, claim)? {
+            Ok(parent) => Ok(Ok(Some(parent))),
+            Err(why) => Ok(Err(why)),
+        },
+    }
+}
+
+/// The parent of each signal, or the first signal that has no clear one.
+pub(crate) fn parents_of(
+    alloc: Global,
+    marks: &[Mark],
+    links: &[Link],
+) -> Result<Vec<Option<Parent>>, MuxFault>
+    requires { All (λ l. l.child < length marks.now) links.now }
+    ensures parents { IfOk result (λ parents. AreParents marks.now links.now parents.items) }
+    ensures fault { IfErr result (IsFault marks.now links.now) }
+{
+    let Ok(mut claims) = claims_of(alloc, marks.len(), links) else {
+        return Err(MuxFault::Memory);
+    };
+    let selector = selector_of(marks);
+    let mut parents = Vec::new(alloc);
+    for (signal, mark) in marks.iter().enumerate() {
+        let claim = mem::replace(&mut claims[signal], Claim::Unlinked);
+        match parent_of(alloc, marks, selector, mark, claim) {
+            Ok(Ok(parent)) => {
+                let Ok(()) = parents.push(parent) else {
+                    return Err(MuxFault::Memory);
+                };
+            }
+            Ok(Err(why)) => return Err(MuxFault::At { signal, why }),
+            Err(_) => return Err(MuxFault::Memory),
+        }
+    }
+    Ok(parents)
+}

@@ -1,0 +1,154 @@
+//! The tree of parents of a message's signals, and which signals are active in it.
+
+ghost use Rattle.std.specs.Prelude.{◌≡◌, ℕ, ◌<◌, ◌↔◌, List, Option, IsTrue, IfOk, IfErr, All, length, slice_get};
+ghost use Rattle.std.specs.List.{list_any};
+ghost use Rattle.std.specs.Option.{option_copied, option_flatten};
+ghost use Rattle.multiplex_tree.specs.declared.fault.MuxWhy.{MuxWhy};
+ghost use Rattle.multiplex_tree.specs.declared.fault.MuxFault.TheVariants.{At};
+ghost use Rattle.multiplex_tree.specs.declared.mark.Mark.{Mark};
+ghost use Rattle.multiplex_tree.specs.declared.mark.Link.{Link};
+ghost use Rattle.multiplex_tree.specs.declared.mark.Parent.{Parent};
+ghost use Rattle.multiplex_tree.specs.Chain.{signals_above as signals_of, IsShallow};
+ghost use Rattle.multiplex_tree.specs.Fault.{IsTree, IsFault};
+ghost use Rattle.multiplex_tree.specs.Activity.{is_in_range as lies_in, parent_at as parent_in_tree, selects, is_active, IsActive};
+
+use crate::chain::{MOST_PARENTS, check_chains};
+use crate::parents::parents_of;
+use crate::{Link, List, Mark, MuxFault, Parent, Range};
+use std::alloc::{AllocError, Global};
+
+/// The parent of each signal of a message, by the signals' places.
+#[derive(Debug, Drop)]
+pub struct Tree {
+    pub parents: List<Option<Parent>>,
+}
+
+/// The signals that are the parents.
+fn signals_above(
+    alloc: Global,
+    parents: &[Option<Parent>],
+) -> Result<Vec<Option<usize>>, AllocError>
+    ensures { IfOk result (λ above. above.items ≡ signals_of parents.now) }
+{
+    parents
+        .iter()
+        .map(|parent| match parent {
+            Some(parent) => Some(parent.signal),
+            None => None,
+        })
+        .collect(alloc)
+}
+
+/// The tree of parents that marks and links make, where each signal has a clear parent or none and at most 8
+/// parents stand above it. A signal without group has no parent. Links to the others name their parent, which
+/// has to be one multiplexor; without links it is the one multiplexor without group, with that group's value.
+///
+/// The fault is the first signal without a clear parent (`NoParent`, `Ambiguous`), else the first whose chain of
+/// parents never ends (`Cycle`), else the first with more than 8 parents above it (`Deep`); or want of memory.
+/// `marks` has a mark for each signal, and each link's child is one of them.
+pub fn resolve(alloc: Global, marks: &[Mark], links: &[Link]) -> Result<Tree, MuxFault>
+    requires { All (λ l. l.child < length marks.now) links.now }
+    ensures tree { IfOk result (λ tree. IsTree marks.now links.now tree.parents) }
+    ensures fault { IfErr result (IsFault marks.now links.now) }
+{
+    let parents = match parents_of(alloc, marks, links) {
+        Ok(parents) => parents,
+        Err(fault) => return Err(fault),
+    };
+    let Ok(above) = signals_above(alloc, parents.as_slice()) else {
+        return Err(MuxFault::Memory);
+    };
+    match check_chains(alloc, above.as_slice()) {
+        Ok(()) => Ok(Tree {
+            parents: List::of(parents),
+        }),
+        Err(fault) => Err(fault),
+    }
+}
+
+/// Marks and links have one tree, or else one fault.
+pub fn resolution_is_unique()
+    ensures tree { (marks : List Mark) (links : List Link) (a b : List (Option Parent)) →
+        IsTree marks links a → IsTree marks links b → a ≡ b }
+    ensures fault { (marks : List Mark) (links : List Link) (s t : ℕ) (why because : MuxWhy) →
+        IsFault marks links (At s why) → IsFault marks links (At t because) → (s ≡ t) × (why ≡ because) }
+    ensures never_both { (marks : List Mark) (links : List Link) (a : List (Option Parent)) (s : ℕ) (why : MuxWhy) →
+        IsTree marks links a → ¬ IsFault marks links (At s why) }
+{}
+
+/// Whether a raw value lies in a range.
+fn is_in_range(raw: i128, range: &Range) -> bool
+    ensures { result ≡ lies_in raw range.now }
+{
+    i128::from(range.low) <= raw && raw <= i128::from(range.high)
+}
+
+/// Whether a raw value lies in one of the ranges.
+fn is_in_one(raw: i128, ranges: &[Range]) -> bool
+    ensures { result ≡ list_any (lies_in raw) ranges.now }
+{
+    ranges.iter().any(|range| is_in_range(raw, range))
+}
+
+/// The raw value of a signal, where it is there.
+fn raw_at(raws: &[Option<i128>], signal: usize) -> Option<i128>
+    ensures { result ≡ option_flatten (slice_get raws.now signal) }
+{
+    match raws.get(signal) {
+        Some(raw) => *raw,
+        None => None,
+    }
+}
+
+/// Whether the parent's raw value selects the signals below it.
+fn is_selecting(parent: &Parent, raws: &[Option<i128>]) -> bool
+    ensures { result ≡ selects raws.now parent.now }
+{
+    match raw_at(raws, parent.signal) {
+        Some(raw) => is_in_one(raw, parent.ranges.items()),
+        None => false,
+    }
+}
+
+/// The parent of a signal, where it has one.
+fn parent_at(parents: &[Option<Parent>], signal: usize) -> Option<&Parent>
+    ensures { option_copied result ≡ parent_in_tree parents.now signal }
+{
+    match parents.get(signal) {
+        Some(Some(parent)) => Some(parent),
+        _ => None,
+    }
+}
+
+/// Whether each parent on the way up from a signal, at most 8, selects the signal below it.
+fn is_selected(parents: &[Option<Parent>], raws: &[Option<i128>], signal: usize) -> bool
+    requires { IsShallow (signals_of parents.now) }
+    ensures { result ≡ is_active parents.now raws.now signal }
+{
+    let mut place = signal;
+    for _ in 0..MOST_PARENTS {
+        let Some(parent) = parent_at(parents, place) else {
+            return true;
+        };
+        if !is_selecting(parent, raws) {
+            return false;
+        }
+        place = parent.signal;
+    }
+    true
+}
+
+impl Tree {
+    /// Whether a signal is active under these raw values: it has no parent, or its parent is active and the
+    /// parent's raw value is there and lies in one of the ranges, both ends included. `raws` has the raw value of
+    /// each signal that is there. A tree from `resolve` has at most 8 parents above a signal. Takes no memory.
+    pub fn active(&self, raws: &[Option<i128>], signal: usize) -> bool
+        requires shallow { IsShallow (signals_of self.now.parents) }
+        requires raws { length raws.now ≡ length self.now.parents }
+        requires signal { signal < length raws.now }
+        ensures relation { IsTrue result ↔ IsActive self.now.parents raws.now signal }
+        ensures test { result ≡ is_active self.now.parents raws.now signal }
+    {
+        is_selected(self.parents.items(), raws, signal)
+    }
+}
