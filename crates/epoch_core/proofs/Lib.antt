@@ -3,3 +3,4 @@ pub mod Lanes
 pub mod Loader
 pub mod First
 pub mod Schedules
+pub mod Range

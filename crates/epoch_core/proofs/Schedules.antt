@@ -1,12 +1,12 @@
 -- What holds after every list of allowed steps.
 use Rattle.std.proofs.Common.{◌≡◌, ◌≢◌, ℕ, ◌+◌, ◌<◌, ◌≤◌, List, [], ◌∷◌, ◌++◌, length, take, get_or, set, sym, subst, refl, ap, arith, ◌∙◌}
-use Rattle.std.proofs.lemmas.List.{get_or_append_left}
+use Rattle.std.proofs.lemmas.List.{get_or_append_left, get_or-set_other}
 use Rattle.epoch_core.specs.declared.lane.LaneState.{LaneState}
 use Rattle.epoch_core.specs.declared.lane.LaneState.TheVariants.{Idle, Loaded, Pinned, Holding}
 use Rattle.epoch_core.specs.declared.step.Step.{Step}
 use Rattle.epoch_core.specs.declared.step.Step.TheVariants.{L1, L2, L3, L4, L5, W1, W2, W3, W4, S, J}
 use Rattle.epoch_core.specs.Machine.{Machine, first, lane_state, words_of, image_of}
-use Rattle.epoch_core.specs.Steps.{Holds, HoldsNothing, May, after, loaded_epoch}
+use Rattle.epoch_core.specs.Steps.{Holds, HoldsNothing, May, after, stored, loaded_epoch}
 use Rattle.epoch_core.specs.Rule.{RegionRule, BeginsWith}
 use Rattle.epoch_core.specs.Runs.{run, AreAllowed, IsReached}
 use Rattle.epoch_core.proofs.Lists.{read_after_set, is_within}
@@ -93,6 +93,23 @@ held_whole m steps lane epoch version region rule allowed before holds =
 pub held_not_stored : (m : Machine) (lane epoch version region place word : ℕ) → RegionRule m → Holds m lane epoch version region → ¬ May m (W1 region place word)
 held_not_stored m lane epoch version region place word rule holds may =
     is_not_held m region lane epoch version region rule may.0 may.2 holds refl
+
+-- each step leaves the words of a held region as they are
+pub held_words_stay : (m : Machine) (step : Step) (lane epoch version region : ℕ) → RegionRule m → Holds m lane epoch version region → May m step →
+    words_of (after m step) region ≡ words_of m region
+held_words_stay m (L1 other) lane epoch version region rule holds may = refl
+held_words_stay m (L2 other) lane epoch version region rule holds may = refl
+held_words_stay m (L3 other) lane epoch version region rule holds may = refl
+held_words_stay m (L4 other place) lane epoch version region rule holds may = refl
+held_words_stay m (L5 other) lane epoch version region rule holds may = refl
+held_words_stay m (W1 written place word) lane epoch version region rule holds may =
+    get_or-set_other m.regions written region (stored (words_of m written) place word) []
+        (is_not_held m written lane epoch version region rule may.0 may.2 holds)
+held_words_stay m (W2 other size) lane epoch version region rule holds may = refl
+held_words_stay m W3 lane epoch version region rule holds may = refl
+held_words_stay m (W4 other cleared) lane epoch version region rule holds may = refl
+held_words_stay m S lane epoch version region rule holds may = refl
+held_words_stay m (J other) lane epoch version region rule holds may = refl
 
 -- the published version, and the one that the lane may hold, is this one or a later one
 abbrev IsFrom : Machine → ℕ → ℕ → Type 0

@@ -49,6 +49,34 @@ May m (W4 region lane) = (lane < length m.lanes) × ((epoch : ℕ) × (retiremen
 May m S = Unit {0}
 May m (J lane) = IsIdle m lane
 
+-- the lane and the region that a step names are there
+abbrev pub NamesWhatIsThere : Machine → Step → Type 0
+NamesWhatIsThere m (L1 lane) = lane < length m.lanes
+NamesWhatIsThere m (L2 lane) = lane < length m.lanes
+NamesWhatIsThere m (L3 lane) = lane < length m.lanes
+NamesWhatIsThere m (L4 lane place) = lane < length m.lanes
+NamesWhatIsThere m (L5 lane) = lane < length m.lanes
+NamesWhatIsThere m (W1 region place word) = region < length m.regions
+NamesWhatIsThere m (W2 region size) = region < length m.regions
+NamesWhatIsThere m W3 = Unit {0}
+NamesWhatIsThere m (W4 region lane) = (region < length m.regions) × (lane < length m.lanes)
+NamesWhatIsThere m S = Unit {0}
+NamesWhatIsThere m (J lane) = lane < length m.lanes
+
+-- whether a step takes memory: a region grows, or an image is kept
+abbrev pub TakesMemory : Machine → Step → Type 0
+TakesMemory m (W1 region place word) = place ≡ length (words_of m region)
+TakesMemory m (W2 region size) = Unit {0}
+TakesMemory m (L1 lane) = ⊥
+TakesMemory m (L2 lane) = ⊥
+TakesMemory m (L3 lane) = ⊥
+TakesMemory m (L4 lane place) = ⊥
+TakesMemory m (L5 lane) = ⊥
+TakesMemory m W3 = ⊥
+TakesMemory m (W4 region lane) = ⊥
+TakesMemory m S = ⊥
+TakesMemory m (J lane) = ⊥
+
 -- the epoch that a lane has loaded
 abbrev pub loaded_epoch : LaneState → ℕ
 loaded_epoch Idle = 0

@@ -5,7 +5,7 @@ ghost use Rattle.std.specs.Prelude.{◌≡◌, ℕ, ◌+◌, ◌≤◌, List, le
 ghost use Rattle.epoch_core.specs.declared.step.Step.{Step};
 ghost use Rattle.epoch_core.specs.declared.step.Step.TheVariants.{W1};
 ghost use Rattle.epoch_core.specs.Machine.{Machine, first, words_of, image_of};
-ghost use Rattle.epoch_core.specs.Steps.{May, Holds, HoldsNothing};
+ghost use Rattle.epoch_core.specs.Steps.{May, Holds, HoldsNothing, after};
 ghost use Rattle.epoch_core.specs.Rule.{RegionRule, BeginsWith};
 ghost use Rattle.epoch_core.specs.Runs.{run, AreAllowed, AreWithinLimits, IsReached};
 
@@ -33,9 +33,14 @@ pub fn a_held_image_stays_whole()
 {
 }
 
-/// No word of a region is stored while a lane holds it.
+/// No word of a region is stored while a lane holds it, and no step that is allowed changes the region's words.
 pub fn a_held_region_is_not_stored()
-    ensures {
+    ensures words {
+        (machine : Machine) (step : Step) (lane epoch version region : ℕ)
+        → IsReached machine → Holds machine lane epoch version region → May machine step
+        → words_of (after machine step) region ≡ words_of machine region
+    }
+    ensures not_stored {
         (machine : Machine) (lane epoch version region place word : ℕ)
         → IsReached machine → Holds machine lane epoch version region → ¬ May machine (W1 region place word)
     }

@@ -74,6 +74,7 @@ impl List<u64> {
         requires { place ≤ length self.old }
         ensures ok { OnOk result (self.new ≡ stored self.old place value) }
         ensures err { OnErr result (self.new ≡ self.old) }
+        ensures grows { OnErr result (place ≡ length self.old) }
     {
         if place == self.items.len() {
             return self.push(value);
@@ -100,6 +101,7 @@ impl List<List<u64>> {
         requires inner { place ≤ length (slice_index_or self.old index []) }
         ensures ok { OnOk result (self.new ≡ slice_set self.old index (stored (slice_index_or self.old index []) place value)) }
         ensures err { OnErr result (self.new ≡ self.old) }
+        ensures grows { OnErr result (place ≡ length (slice_index_or self.old index [])) }
     {
         let list = &mut self.items[index];
         list.store(place, value)

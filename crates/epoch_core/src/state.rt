@@ -3,7 +3,7 @@
 ghost use Rattle.std.specs.Prelude.{◌≡◌, ◌≢◌, ◌↔◌, ℕ, ◌<◌, ◌≤◌, IsTrue, Option, length, slice_index_or};
 ghost use Rattle.std.specs.List.{All};
 ghost use Rattle.epoch_core.specs.Machine.{lane_state, words_of, retirement, clearings};
-ghost use Rattle.epoch_core.specs.Steps.{May, IsIdle, Holds, EveryLaneIsCleared, NoOtherIsWritten};
+ghost use Rattle.epoch_core.specs.Steps.{May, NamesWhatIsThere, IsIdle, Holds, EveryLaneIsCleared, NoOtherIsWritten};
 
 use std::marker::Model;
 
@@ -49,8 +49,10 @@ impl Model for State {
 
 impl State {
     /// Whether a step may be taken. A step that names a lane or a region that is not there may not.
+    #[tactic(auto, using(crate::proofs::Range::in_range))]
     pub fn may(&self, step: &Step) -> bool
-        ensures { IsTrue result ↔ May self.now step.now }
+        ensures exact { IsTrue result ↔ May self.now step.now }
+        ensures in_range { IsTrue result → NamesWhatIsThere self.now step.now }
     {
         match *step {
             Step::L1 { lane } | Step::J { lane } => self.is_idle(lane),

@@ -2,7 +2,7 @@
 
 ghost use Rattle.std.specs.Prelude.{◌≡◌, OnOk, OnErr};
 ghost use Rattle.epoch_core.specs.Machine.{is_cleared};
-ghost use Rattle.epoch_core.specs.Steps.{May, after, loaded_epoch, is_past};
+ghost use Rattle.epoch_core.specs.Steps.{May, TakesMemory, after, loaded_epoch, is_past};
 
 use std::alloc::AllocError;
 
@@ -11,11 +11,14 @@ use crate::state::State;
 use crate::step::Step;
 
 impl State {
-    /// Takes a step. Only `W1` and `W2` take memory; after want of it the state is as it was.
+    /// Takes a step. Only `W1`, where the region grows, and `W2` take memory; after want of it the state is as it was.
     pub fn take(&mut self, step: &Step) -> Result<(), AllocError>
         requires { May self.old step.now }
         ensures ok { OnOk result (self.new ≡ after self.old step.now) }
         ensures err { OnErr result (self.new ≡ self.old) }
+
+        // Every other step is taken whatever memory is left.
+        ensures memory { OnErr result (TakesMemory self.old step.now) }
     {
         match *step {
             Step::L1 { lane } => {
@@ -89,6 +92,7 @@ impl State {
         requires { May self.old (Step.W1 region place word) }
         ensures ok { OnOk result (self.new ≡ after self.old (Step.W1 region place word)) }
         ensures err { OnErr result (self.new ≡ self.old) }
+        ensures memory { OnErr result (TakesMemory self.old (Step.W1 region place word)) }
     {
         self.regions.store_in(region as usize, place, word)?;
         self.writing = Some(region);
