@@ -15,8 +15,8 @@ use Rattle.epoch_core.specs.Runs.{AreWithinLimits}
 repeated_reads : {X : Type 0} (n i : ℕ) (x : X) → get_or (replicate n x) i x ≡ x
 repeated_reads n i x =
     elim (leb_tells n i) as (λ _. get_or (replicate n x) i x ≡ x) [
-      inl past ↦ get_or_past (replicate n x) i x (omega (arith, length-replicate n x, past.1))
-    | inr within ↦ get_or-replicate n i x x within.1
+      | inl past ↦ get_or_past (replicate n x) i x (omega (arith, length-replicate n x, past.1))
+      | inr within ↦ get_or-replicate n i x x within.1
     ]
 
 others_cleared : (row : List Bool) (n lanes region : ℕ) → region ≢ 0 → region < n + 1 →
@@ -42,18 +42,18 @@ first_kept regions lanes image limits =
         by_lane = All-cons (λ row. length row ≡ length (replicate lanes Idle)) (replicate lanes false) (replicate (regions - 1) (replicate lanes true))
             (length-replicate lanes false ∙ sym (length-replicate lanes Idle))
             (All-replicate (λ row. length row ≡ length (replicate lanes Idle)) (regions - 1) (replicate lanes true)
-                (length-replicate lanes true ∙ sym (length-replicate lanes Idle)));
+            (length-replicate lanes true ∙ sym (length-replicate lanes Idle)));
       };
       published = (refl, take-length image, repeated_reads regions 0 never, All-replicate (λ is. is ≡ false) lanes false refl);
       epoch = (omega arith, omega arith);
       pins = λ lane.
-        let P : LaneState → Type 0 = λ s. Announces 0 s (get_or (replicate lanes 0) lane 0) in
-        subst P (sym (repeated_reads lanes lane Idle)) (repeated_reads lanes lane 0);
+          let P : LaneState → Type 0 = λ s. Announces 0 s (get_or (replicate lanes 0) lane 0) in
+          subst P (sym (repeated_reads lanes lane Idle)) (repeated_reads lanes lane 0);
       spare = λ region within other.
-        let P : Option ℕ → Type 0 = λ o. IsSpare (first regions lanes image) region o in
-        subst P (sym (repeated_reads regions region never))
-            (others_cleared (replicate lanes false) (regions - 1) lanes region other (omega (arith, size, within)));
+          let P : Option ℕ → Type 0 = λ o. IsSpare (first regions lanes image) region o in
+          subst P (sym (repeated_reads regions region never))
+          (others_cleared (replicate lanes false) (regions - 1) lanes region other (omega (arith, size, within)));
       held = λ lane epoch version region holds.
-        let idle : Idle ≡ Holding epoch version region = sym (repeated_reads lanes lane Idle) ∙ holds in absurd (cc idle);
+          let idle : Idle ≡ Holding epoch version region = sym (repeated_reads lanes lane Idle) ∙ holds in absurd (cc idle);
       written = λ region is. absurd (cc is);
     }

@@ -17,14 +17,14 @@ announced_after : (now : ℕ) (lanes : List LaneState) (pins : List ℕ) (lane o
     Announces now (get_or (set lanes lane state) other Idle) (get_or (set pins lane pin) other 0)
 announced_after now lanes pins lane other state pin in_lanes in_pins new old =
     elim (eqb_tells other lane) as (λ _. Announces now (get_or (set lanes lane state) other Idle) (get_or (set pins lane pin) other 0)) [
-      inl e ↦
-        let P : LaneState → Type 0 = λ s. Announces now s (get_or (set pins lane pin) other 0) in
-        let Q : ℕ → Type 0 = λ p. Announces now state p in
-        subst P (sym (get_or-set_at lanes lane other state Idle e.1 in_lanes)) (subst Q (sym (get_or-set_at pins lane other pin 0 e.1 in_pins)) new)
-    | inr e ↦
-        let P : LaneState → Type 0 = λ s. Announces now s (get_or (set pins lane pin) other 0) in
-        let Q : ℕ → Type 0 = λ p. Announces now (get_or lanes other Idle) p in
-        subst P (sym (get_or-set_other lanes lane other state Idle e.1)) (subst Q (sym (get_or-set_other pins lane other pin 0 e.1)) old)
+      | inl e ↦
+          let P : LaneState → Type 0 = λ s. Announces now s (get_or (set pins lane pin) other 0) in
+          let Q : ℕ → Type 0 = λ p. Announces now state p in
+          subst P (sym (get_or-set_at lanes lane other state Idle e.1 in_lanes)) (subst Q (sym (get_or-set_at pins lane other pin 0 e.1 in_pins)) new)
+      | inr e ↦
+          let P : LaneState → Type 0 = λ s. Announces now s (get_or (set pins lane pin) other 0) in
+          let Q : ℕ → Type 0 = λ p. Announces now (get_or lanes other Idle) p in
+          subst P (sym (get_or-set_other lanes lane other state Idle e.1)) (subst Q (sym (get_or-set_other pins lane other pin 0 e.1)) old)
     ]
 
 -- a lane's state and pin are replaced by others that the rule allows
@@ -45,10 +45,10 @@ lane_kept m lane state pin within rule announces safe = record {
   pins = λ other. announced_after m.epoch m.lanes m.pins lane other state pin within (omega (arith, rule.well_formed.pins)) announces (rule.pins other);
   spare = rule.spare;
   held = λ other epoch version region holds.
-    let P : LaneState → Type 0 = λ s. s ≡ Holding epoch version region → IsSafe m other epoch version region in
-    let Q : ℕ → Type 0 = λ l. IsSafe m l epoch version region in
-    read_after_set P m.lanes lane other state Idle within
-        (λ same is. subst Q (sym same) (safe epoch version region is)) (λ _. rule.held other epoch version region) holds;
+      let P : LaneState → Type 0 = λ s. s ≡ Holding epoch version region → IsSafe m other epoch version region in
+      let Q : ℕ → Type 0 = λ l. IsSafe m l epoch version region in
+      read_after_set P m.lanes lane other state Idle within
+      (λ same is. subst Q (sym same) (safe epoch version region is)) (λ _. rule.held other epoch version region) holds;
   written = rule.written;
 }
 
@@ -81,8 +81,8 @@ load_epoch_kept m lane may rule =
 pub store_pin_kept : (m : Machine) (lane : ℕ) → May m (L2 lane) → RegionRule m → RegionRule (after m (L2 lane))
 store_pin_kept m lane may rule =
     lane_kept m lane (Pinned (loaded_epoch (lane_state m lane))) (loaded_epoch (lane_state m lane) + 1)
-        (is_within m.lanes lane (Loaded may.0) Idle may.1 (λ e. cc e)) rule
-        (refl, is_loaded m lane rule) (λ epoch version region is. absurd (cc is))
+    (is_within m.lanes lane (Loaded may.0) Idle may.1 (λ e. cc e)) rule
+    (refl, is_loaded m lane rule) (λ epoch version region is. absurd (cc is))
 
 -- a lane that takes hold of the published region does so safely
 holds_published : (m : Machine) (lane seen epoch version region : ℕ) → RegionRule m →
@@ -91,7 +91,7 @@ holds_published m lane seen epoch version region rule is =
     let e : m.version ≡ version = cc is in
     let f : m.region ≡ region = cc is in
     let safe : IsSafe m lane epoch m.version m.region =
-        (omega arith, rule.well_formed.published, rule.published.1, inl refl, none_reads (clearings m m.region) lane rule.published.3) in
+    (omega arith, rule.well_formed.published, rule.published.1, inl refl, none_reads (clearings m m.region) lane rule.published.3) in
     let P : ℕ → Type 0 = λ v. IsSafe m lane epoch v m.region in
     let Q : ℕ → Type 0 = λ r. IsSafe m lane epoch version r in
     subst Q f (subst P e safe)
@@ -101,11 +101,11 @@ take_hold_kept m lane may rule =
     let pinned = announces_as m lane (Pinned may.0) rule may.1 in
     let P : ℕ → Type 0 = λ e. (pin_of m lane ≡ e + 1) × (e ≤ m.epoch) in
     state_kept m lane (Holding (loaded_epoch (lane_state m lane)) m.version m.region)
-        (is_within m.lanes lane (Pinned may.0) Idle may.1 (λ e. cc e)) rule
-        (subst P (sym (ap loaded_epoch may.1)) pinned)
-        (λ epoch version region is. holds_published m lane (loaded_epoch (lane_state m lane)) epoch version region rule is)
+    (is_within m.lanes lane (Pinned may.0) Idle may.1 (λ e. cc e)) rule
+    (subst P (sym (ap loaded_epoch may.1)) pinned)
+    (λ epoch version region is. holds_published m lane (loaded_epoch (lane_state m lane)) epoch version region rule is)
 
 pub let_go_kept : (m : Machine) (lane : ℕ) → May m (L5 lane) → RegionRule m → RegionRule (after m (L5 lane))
 let_go_kept m lane may rule =
     lane_kept m lane Idle 0 (is_within m.lanes lane (Holding may.0 may.1.0 may.1.1.0) Idle may.1.1.1 (λ e. cc e)) rule
-        refl (λ epoch version region is. absurd (cc is))
+    refl (λ epoch version region is. absurd (cc is))

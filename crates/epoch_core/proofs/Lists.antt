@@ -9,24 +9,24 @@ use Rattle.std.proofs.lemmas.List.{get_or_past, get_or-set_other, replicate_more
 pub read_after_set : {X : Type 0} (P : X → Type 0) (xs : List X) (i j : ℕ) (y d : X) → i < length xs → (j ≡ i → P y) → (j ≢ i → P (get_or xs j d)) → P (get_or (set xs i y) j d)
 read_after_set P xs i j y d within here there =
     elim (eqb_tells j i) as (λ _. P (get_or (set xs i y) j d)) [
-      inl e ↦ subst P (sym (get_or-set_at xs i j y d e.1 within)) (here e.1)
-    | inr e ↦ subst P (sym (get_or-set_other xs i j y d e.1)) (there e.1)
+      | inl e ↦ subst P (sym (get_or-set_at xs i j y d e.1 within)) (here e.1)
+      | inr e ↦ subst P (sym (get_or-set_other xs i j y d e.1)) (there e.1)
     ]
 
 -- an element that is not the default stands in the list
 pub is_within : {X : Type 0} (xs : List X) (i : ℕ) (x d : X) → get_or xs i d ≡ x → x ≢ d → i < length xs
 is_within xs i x d is other =
     elim (leb_tells (length xs) i) as (λ _. i < length xs) [
-      inl past ↦ absurd (other (sym is ∙ get_or_past xs i d past.1))
-    | inr within ↦ within.1
+      | inl past ↦ absurd (other (sym is ∙ get_or_past xs i d past.1))
+      | inr within ↦ within.1
     ]
 
 -- where none is true, each reads as false, past the end too
 pub none_reads : (row : List Bool) (i : ℕ) → All (λ is. is ≡ false) row → get_or row i false ≡ false
 none_reads row i none =
     elim (leb_tells (length row) i) as (λ _. get_or row i false ≡ false) [
-      inl past ↦ get_or_past row i false past.1
-    | inr within ↦ none i false within.1
+      | inl past ↦ get_or_past row i false past.1
+      | inr within ↦ none i false within.1
     ]
 
 -- one more after a first element and the repeated ones

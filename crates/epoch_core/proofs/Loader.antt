@@ -47,21 +47,21 @@ store_word_kept m region place word may rule =
         by_lane = rule.well_formed.by_lane;
       };
       published =
-        let P : List ℕ → Type 0 = λ ws. BeginsWith ws (image_of m m.version) in
-        let kept = get_or-set_other m.regions region m.region words [] (λ e. may.1 (sym e)) in
-        (rule.published.0, subst P (sym kept) rule.published.1, rule.published.2, rule.published.3);
+          let P : List ℕ → Type 0 = λ ws. BeginsWith ws (image_of m m.version) in
+          let kept = get_or-set_other m.regions region m.region words [] (λ e. may.1 (sym e)) in
+          (rule.published.0, subst P (sym kept) rule.published.1, rule.published.2, rule.published.3);
       epoch = rule.epoch;
       pins = rule.pins;
       spare = λ other within. rule.spare other (omega (arith, size, within));
       held = λ lane epoch version held holds.
-        let safe = rule.held lane epoch version held holds in
-        let P : List ℕ → Type 0 = λ ws. BeginsWith ws (image_of m version) in
-        let kept = get_or-set_other m.regions region held words [] (is_not_held m region lane epoch version held rule may.0 may.2 holds) in
-        (safe.0, omega (arith, size, safe.1), subst P (sym kept) safe.2, safe.3, safe.4);
+          let safe = rule.held lane epoch version held holds in
+          let P : List ℕ → Type 0 = λ ws. BeginsWith ws (image_of m version) in
+          let kept = get_or-set_other m.regions region held words [] (is_not_held m region lane epoch version held rule may.0 may.2 holds) in
+          (safe.0, omega (arith, size, safe.1), subst P (sym kept) safe.2, safe.3, safe.4);
       written = λ other is.
-        let same : region ≡ other = cc is in
-        let P : ℕ → Type 0 = λ r. (r < length (set m.regions region words)) × (r ≢ m.region) × EveryLaneIsCleared m r in
-        subst P same (omega (arith, size, may.0), may.1, may.2);
+          let same : region ≡ other = cc is in
+          let P : ℕ → Type 0 = λ r. (r < length (set m.regions region words)) × (r ≢ m.region) × EveryLaneIsCleared m r in
+          subst P same (omega (arith, size, may.0), may.1, may.2);
     }
 
 -- a spare region stays spare in a state in which no lane that was cleared for it is so no more
@@ -118,9 +118,9 @@ held_is_not_past m region lane now epoch version rule retired holds =
     let safe = rule.held lane epoch version region holds in
     let announced = announces_as m lane (Holding epoch version region) rule holds in
     let since : epoch ≤ now = elim safe.3 as (λ _. epoch ≤ now) [
-        inl published ↦ absurd (apart m region m.region now retired rule.published.2 (sym published))
+      | inl published ↦ absurd (apart m region m.region now retired rule.published.2 (sym published))
       | inr since ↦ retired_since epoch now (retirement m region) retired since
-      ] in
+    ] in
     is_past_as m region lane now retired (not_past epoch now (pin_of m lane) announced.0 since)
 
 pub load_pin_kept : (m : Machine) (region lane : ℕ) → May m (W4 region lane) → RegionRule m → RegionRule (after m (W4 region lane))
@@ -131,20 +131,20 @@ load_pin_kept m region lane may rule =
     let flag = is_cleared m region lane || past in
     let row = set (clearings m region) lane flag in
     let within : region < length m.cleared =
-        let h = is_within m.retired region (Some now) None retired (λ e. cc e) in
-        omega (arith, h, rule.well_formed.retired, rule.well_formed.cleared) in
+    let h = is_within m.retired region (Some now) None retired (λ e. cc e) in
+    omega (arith, h, rule.well_formed.retired, rule.well_formed.cleared) in
     let by_lane : length (clearings m region) ≡ length m.lanes = rule.well_formed.by_lane region [] within in
     let n = after m (W4 region lane) in
     let every : (r : ℕ) → EveryLaneIsCleared m r → EveryLaneIsCleared n r = λ r all.
-        let P : List Bool → Type 0 = λ bs. All (λ is. is ≡ true) bs in
-        read_after_set P m.cleared region r row [] within
-            (λ same.
-                let Q : ℕ → Type 0 = λ x. All (λ is. is ≡ true) (clearings m x) in
-                let here : All (λ is. is ≡ true) (clearings m region) = subst Q same all in
-                let e : is_cleared m region lane ≡ true = here lane false (omega (arith, by_lane, may.0)) in
-                let f : flag ≡ true = ap (λ (b : Bool). b || past) e in
-                All-set (λ is. is ≡ true) (clearings m region) lane flag f here)
-            (λ _. all) in
+    let P : List Bool → Type 0 = λ bs. All (λ is. is ≡ true) bs in
+    read_after_set P m.cleared region r row [] within
+    (λ same.
+    let Q : ℕ → Type 0 = λ x. All (λ is. is ≡ true) (clearings m x) in
+    let here : All (λ is. is ≡ true) (clearings m region) = subst Q same all in
+    let e : is_cleared m region lane ≡ true = here lane false (omega (arith, by_lane, may.0)) in
+    let f : flag ≡ true = ap (λ (b : Bool). b || past) e in
+    All-set (λ is. is ≡ true) (clearings m region) lane flag f here)
+    (λ _. all) in
     record {
       well_formed = record {
         published = rule.well_formed.published;
@@ -155,35 +155,35 @@ load_pin_kept m region lane may rule =
         by_lane = All-set (λ bs. length bs ≡ length m.lanes) m.cleared region row (length-set (clearings m region) lane flag ∙ by_lane) rule.well_formed.by_lane;
       };
       published =
-        let P : List Bool → Type 0 = λ bs. All (λ is. is ≡ false) bs in
-        let kept = get_or-set_other m.cleared region m.region row [] (apart m region m.region now retired rule.published.2) in
-        (rule.published.0, rule.published.1, rule.published.2, subst P (sym kept) rule.published.3);
+          let P : List Bool → Type 0 = λ bs. All (λ is. is ≡ false) bs in
+          let kept = get_or-set_other m.cleared region m.region row [] (apart m region m.region now retired rule.published.2) in
+          (rule.published.0, rule.published.1, rule.published.2, subst P (sym kept) rule.published.3);
       epoch = rule.epoch;
       pins = rule.pins;
       spare = λ other here unlike. spare_kept m n other (retirement m other) (omega arith) (λ _ all. every other all) (rule.spare other here unlike);
       held = λ other epoch version held holds.
-        let safe = rule.held other epoch version held holds in
-        let P : List Bool → Type 0 = λ bs. get_or bs other false ≡ false in
-        let not_cleared : is_cleared n held other ≡ false =
-            read_after_set P m.cleared region held row [] within
-                (λ same.
-                    let Q : Bool → Type 0 = λ b. b ≡ false in
-                    let R : ℕ → Type 0 = λ x. is_cleared m x other ≡ false in
-                    let old : is_cleared m region other ≡ false = subst R same safe.4 in
-                    read_after_set Q (clearings m region) lane other flag false (omega (arith, by_lane, may.0))
-                        (λ alike.
-                            let H : ℕ → Type 0 = λ l. Holds m l epoch version held in
-                            let G : ℕ → Type 0 = λ x. Holds m lane epoch version x in
-                            let S : ℕ → Type 0 = λ l. is_cleared m region l ≡ false in
-                            let not_past = held_is_not_past m region lane now epoch version rule retired (subst G same (subst H alike holds)) in
-                            let was : is_cleared m region lane ≡ false = subst S alike old in
-                            ap (λ (b : Bool). b || past) was ∙ not_past)
-                        (λ _. old))
-                (λ _. safe.4) in
-        (safe.0, safe.1, safe.2, safe.3, not_cleared);
+          let safe = rule.held other epoch version held holds in
+          let P : List Bool → Type 0 = λ bs. get_or bs other false ≡ false in
+          let not_cleared : is_cleared n held other ≡ false =
+          read_after_set P m.cleared region held row [] within
+          (λ same.
+          let Q : Bool → Type 0 = λ b. b ≡ false in
+          let R : ℕ → Type 0 = λ x. is_cleared m x other ≡ false in
+          let old : is_cleared m region other ≡ false = subst R same safe.4 in
+          read_after_set Q (clearings m region) lane other flag false (omega (arith, by_lane, may.0))
+          (λ alike.
+          let H : ℕ → Type 0 = λ l. Holds m l epoch version held in
+          let G : ℕ → Type 0 = λ x. Holds m lane epoch version x in
+          let S : ℕ → Type 0 = λ l. is_cleared m region l ≡ false in
+          let not_past = held_is_not_past m region lane now epoch version rule retired (subst G same (subst H alike holds)) in
+          let was : is_cleared m region lane ≡ false = subst S alike old in
+          ap (λ (b : Bool). b || past) was ∙ not_past)
+          (λ _. old))
+          (λ _. safe.4) in
+          (safe.0, safe.1, safe.2, safe.3, not_cleared);
       written = λ other is.
-        let w = rule.written other is in
-        (w.0, w.1, every other w.2);
+          let w = rule.written other is in
+          (w.0, w.1, every other w.2);
     }
 
 take_again : (size : ℕ) (words : List ℕ) → size ≤ length words → BeginsWith words (take size words)
@@ -209,47 +209,47 @@ publish_kept m region size may rule =
         by_lane = All-set (λ bs. length bs ≡ length m.lanes) m.cleared region none (length-replicate (length m.lanes) false) rule.well_formed.by_lane;
       };
       published =
-        let e : length m.images ≡ m.version + 1 = rule.published.0 in
-        let P : ℕ → Type 0 = λ v. get_or (m.images ++ image ∷ []) v [] ≡ image in
-        let last : get_or (m.images ++ image ∷ []) (m.version + 1) [] ≡ image = subst P e (get_or-append_seam m.images image [] []) in
-        let Q : List ℕ → Type 0 = λ i. BeginsWith (words_of m region) i in
-        let R : List Bool → Type 0 = λ bs. All (λ is. is ≡ false) bs in
-        ( simp length-append (omega (arith, e))
-        , subst Q (sym last) (take_again size (words_of m region) may.2)
-        , get_or-set_same retired region None None in_retired
-        , subst R (sym (get_or-set_same m.cleared region none [] within)) (All-replicate (λ is. is ≡ false) (length m.lanes) false refl)
-        );
+          let e : length m.images ≡ m.version + 1 = rule.published.0 in
+          let P : ℕ → Type 0 = λ v. get_or (m.images ++ image ∷ []) v [] ≡ image in
+          let last : get_or (m.images ++ image ∷ []) (m.version + 1) [] ≡ image = subst P e (get_or-append_seam m.images image [] []) in
+          let Q : List ℕ → Type 0 = λ i. BeginsWith (words_of m region) i in
+          let R : List Bool → Type 0 = λ bs. All (λ is. is ≡ false) bs in (
+            simp length-append (omega (arith, e)),
+            subst Q (sym last) (take_again size (words_of m region) may.2),
+            get_or-set_same retired region None None in_retired,
+            subst R (sym (get_or-set_same m.cleared region none [] within)) (All-replicate (λ is. is ≡ false) (length m.lanes) false refl),
+          );
       epoch = (omega (arith, may.3), omega (arith, may.3));
       pins = rule.pins;
       spare = λ other here unlike.
-        let P : Option ℕ → Type 0 = λ o. IsSpare n other o in
-        let every : EveryLaneIsCleared m other → EveryLaneIsCleared n other = λ all.
-            let Q : List Bool → Type 0 = λ bs. All (λ is. is ≡ true) bs in
-            subst Q (sym (get_or-set_other m.cleared region other none [] unlike)) all in
-        subst P (sym (get_or-set_other retired region other None None unlike))
-            (read_after_set P m.retired m.region other (Some m.epoch) None old_in_retired
-                (λ _. omega arith)
-                (λ unpublished. spare_kept m n other (retirement m other) (omega arith) (λ _ all. every all) (rule.spare other here unpublished)));
+          let P : Option ℕ → Type 0 = λ o. IsSpare n other o in
+          let every : EveryLaneIsCleared m other → EveryLaneIsCleared n other = λ all.
+          let Q : List Bool → Type 0 = λ bs. All (λ is. is ≡ true) bs in
+          subst Q (sym (get_or-set_other m.cleared region other none [] unlike)) all in
+          subst P (sym (get_or-set_other retired region other None None unlike))
+          (read_after_set P m.retired m.region other (Some m.epoch) None old_in_retired
+          (λ _. omega arith)
+          (λ unpublished. spare_kept m n other (retirement m other) (omega arith) (λ _ all. every all) (rule.spare other here unpublished)));
       held = λ lane epoch version held holds.
-        let safe = rule.held lane epoch version held holds in
-        let unlike = is_not_held m region lane epoch version held rule may.0 free.2 holds in
-        let announced = announces_as m lane (Holding epoch version held) rule holds in
-        let P : List ℕ → Type 0 = λ i. BeginsWith (words_of m held) i in
-        let Q : List Bool → Type 0 = λ bs. get_or bs lane false ≡ false in
-        let R : Option ℕ → Type 0 = λ o. IsRetiredSince epoch o in
-        let since : IsRetiredSince epoch (get_or (set retired region None) held None) =
-            subst R (sym (get_or-set_other retired region held None None unlike))
-                (read_after_set R m.retired m.region held (Some m.epoch) None old_in_retired
-                    (λ _. announced.1)
-                    (λ unpublished. elim safe.3 as (λ _. IsRetiredSince epoch (get_or m.retired held None)) [
-                        inl published ↦ absurd (unpublished published)
-                      | inr since ↦ since
-                      ])) in
-        ( omega (arith, safe.0)
-        , safe.1
-        , subst P (sym (get_or_append_left m.images (image ∷ []) [] version (omega (arith, rule.published.0, safe.0)))) safe.2
-        , inr since
-        , subst Q (sym (get_or-set_other m.cleared region held none [] unlike)) safe.4
-        );
+          let safe = rule.held lane epoch version held holds in
+          let unlike = is_not_held m region lane epoch version held rule may.0 free.2 holds in
+          let announced = announces_as m lane (Holding epoch version held) rule holds in
+          let P : List ℕ → Type 0 = λ i. BeginsWith (words_of m held) i in
+          let Q : List Bool → Type 0 = λ bs. get_or bs lane false ≡ false in
+          let R : Option ℕ → Type 0 = λ o. IsRetiredSince epoch o in
+          let since : IsRetiredSince epoch (get_or (set retired region None) held None) =
+          subst R (sym (get_or-set_other retired region held None None unlike))
+          (read_after_set R m.retired m.region held (Some m.epoch) None old_in_retired
+          (λ _. announced.1)
+          (λ unpublished. elim safe.3 as (λ _. IsRetiredSince epoch (get_or m.retired held None)) [
+            | inl published ↦ absurd (unpublished published)
+            | inr since ↦ since
+          ])) in (
+            omega (arith, safe.0),
+            safe.1,
+            subst P (sym (get_or_append_left m.images (image ∷ []) [] version (omega (arith, rule.published.0, safe.0)))) safe.2,
+            inr since,
+            subst Q (sym (get_or-set_other m.cleared region held none [] unlike)) safe.4,
+          );
       written = λ other is. absurd (cc is);
     }

@@ -36,8 +36,8 @@ all_kept m (step ∷ steps) allowed rule = all_kept (after m step) steps allowed
 pub reached_kept : (m : Machine) → IsReached m → RegionRule m
 reached_kept m reached =
     subst RegionRule (sym reached.is)
-        (all_kept (first reached.region_count reached.lane_count reached.image) reached.steps reached.allowed
-            (first_kept reached.region_count reached.lane_count reached.image reached.limits))
+    (all_kept (first reached.region_count reached.lane_count reached.image) reached.steps reached.allowed
+    (first_kept reached.region_count reached.lane_count reached.image reached.limits))
 
 -- the version after a step
 version_grows : (m : Machine) (step : Step) → m.version ≤ (after m step).version
@@ -77,7 +77,7 @@ pub images_stay : (m : Machine) (steps : List Step) (version : ℕ) → RegionRu
 images_stay m [] version rule allowed h = refl
 images_stay m (step ∷ steps) version rule allowed h =
     images_stay (after m step) steps version (kept m step allowed.0 rule) allowed.1 (omega (arith, version_grows m step))
-        ∙ image_stays m step version rule h
+    ∙ image_stays m step version rule h
 
 -- a region that is held begins with the image that the version had when the lane held it before
 pub held_whole : (m : Machine) (steps : List Step) (lane epoch version region : ℕ) → RegionRule m → AreAllowed m steps →
@@ -104,7 +104,7 @@ held_words_stay m (L4 other place) lane epoch version region rule holds may = re
 held_words_stay m (L5 other) lane epoch version region rule holds may = refl
 held_words_stay m (W1 written place word) lane epoch version region rule holds may =
     get_or-set_other m.regions written region (stored (words_of m written) place word) []
-        (is_not_held m written lane epoch version region rule may.0 may.2 holds)
+    (is_not_held m written lane epoch version region rule may.0 may.2 holds)
 held_words_stay m (W2 other size) lane epoch version region rule holds may = refl
 held_words_stay m W3 lane epoch version region rule holds may = refl
 held_words_stay m (W4 other cleared) lane epoch version region rule holds may = refl
@@ -127,23 +127,23 @@ lanes_from lanes changed lane version state within new old epoch held region hol
 from_step : (m : Machine) (step : Step) (lane version : ℕ) → May m step → IsFrom m lane version → IsFrom (after m step) lane version
 from_step m (L1 changed) lane version may from =
     (from.0, lanes_from m.lanes changed lane version (Loaded m.epoch) may.0 (λ epoch held region is. absurd (cc is)) from.1)
-from_step m (L2 changed) lane version may from =
-    ( from.0
-    , lanes_from m.lanes changed lane version (Pinned (loaded_epoch (lane_state m changed)))
-        (is_within m.lanes changed (Loaded may.0) Idle may.1 (λ e. cc e)) (λ epoch held region is. absurd (cc is)) from.1
-    )
-from_step m (L3 changed) lane version may from =
-    ( from.0
-    , lanes_from m.lanes changed lane version (Holding (loaded_epoch (lane_state m changed)) m.version m.region)
-        (is_within m.lanes changed (Pinned may.0) Idle may.1 (λ e. cc e))
-        (λ epoch held region is. let e : m.version ≡ held = cc is in omega (arith, e, from.0)) from.1
-    )
+from_step m (L2 changed) lane version may from = (
+  from.0,
+  lanes_from m.lanes changed lane version (Pinned (loaded_epoch (lane_state m changed)))
+      (is_within m.lanes changed (Loaded may.0) Idle may.1 (λ e. cc e)) (λ epoch held region is. absurd (cc is)) from.1,
+)
+from_step m (L3 changed) lane version may from = (
+  from.0,
+  lanes_from m.lanes changed lane version (Holding (loaded_epoch (lane_state m changed)) m.version m.region)
+      (is_within m.lanes changed (Pinned may.0) Idle may.1 (λ e. cc e))
+      (λ epoch held region is. let e : m.version ≡ held = cc is in omega (arith, e, from.0)) from.1,
+)
 from_step m (L4 changed place) lane version may from = from
-from_step m (L5 changed) lane version may from =
-    ( from.0
-    , lanes_from m.lanes changed lane version Idle
-        (is_within m.lanes changed (Holding may.0 may.1.0 may.1.1.0) Idle may.1.1.1 (λ e. cc e)) (λ epoch held region is. absurd (cc is)) from.1
-    )
+from_step m (L5 changed) lane version may from = (
+  from.0,
+  lanes_from m.lanes changed lane version Idle
+      (is_within m.lanes changed (Holding may.0 may.1.0 may.1.1.0) Idle may.1.1.1 (λ e. cc e)) (λ epoch held region is. absurd (cc is)) from.1,
+)
 from_step m (W1 region place word) lane version may from = from
 from_step m (W2 region size) lane version may from = (omega (arith, from.0), from.1)
 from_step m W3 lane version may from = from
@@ -161,7 +161,7 @@ pub never_back : (m : Machine) (steps : List Step) (lane epoch version region la
 never_back m steps lane epoch version region later held place rule allowed before holds =
     let safe = rule.held lane epoch version region before in
     let from : IsFrom m lane version =
-        (safe.0, λ e v r is. let same : version ≡ v = cc (sym before ∙ is) in omega (arith, same)) in
+    (safe.0, λ e v r is. let same : version ≡ v = cc (sym before ∙ is) in omega (arith, same)) in
     (from_steps m steps lane version allowed from).1 later held place holds
 
 -- a lane that holds nothing takes hold of no version older than the published one

@@ -121,7 +121,7 @@ after m (W2 region size) = record m {
 after m W3 = record m { epoch = m.epoch + 1 }
 after m (W4 region lane) = record m {
   cleared = slice_set m.cleared region
-    (slice_set (clearings m region) lane (is_cleared m region lane || is_past (pin_of m lane) (retirement m region)));
+      (slice_set (clearings m region) lane (is_cleared m region lane || is_past (pin_of m lane) (retirement m region)));
 }
 after m S = m
 after m (J lane) = m

@@ -9,11 +9,19 @@ pub enum LaneState {
     /// It reads nothing, and its pin is 0.
     Idle,
     /// It has loaded the epoch, and not announced it yet: the loader may pass it by.
-    Loaded { epoch: u64 },
+    Loaded {
+        epoch: u64,
+    },
     /// Its pin is one more than the epoch.
-    Pinned { epoch: u64 },
+    Pinned {
+        epoch: u64,
+    },
     /// It reads the region in which it found the version published.
-    Holding { epoch: u64, version: u32, region: u32 },
+    Holding {
+        epoch: u64,
+        version: u32,
+        region: u32,
+    },
 }
 
 impl LaneState {

@@ -11,75 +11,51 @@ ghost use Rattle.epoch_core.specs.Runs.{run, AreAllowed, AreWithinLimits, IsReac
 
 /// The rule of the machine holds in the first state, and after every list of steps each of which was allowed.
 pub fn the_rule_holds_in_every_schedule()
-    ensures first {
-        (regions lanes : ℕ) (image : List ℕ) → AreWithinLimits regions lanes → RegionRule (first regions lanes image)
-    }
-    ensures every {
-        (regions lanes : ℕ) (image : List ℕ) (steps : List Step) → AreWithinLimits regions lanes
-        → AreAllowed (first regions lanes image) steps → RegionRule (run (first regions lanes image) steps)
-    }
-{
-}
+    ensures first { (regions lanes : ℕ) (image : List ℕ) → AreWithinLimits regions lanes → RegionRule (first regions lanes image) }
+    ensures every { (regions lanes : ℕ) (image : List ℕ) (steps : List Step) → AreWithinLimits regions lanes
+        → AreAllowed (first regions lanes image) steps → RegionRule (run (first regions lanes image) steps) }
+{}
 
 /// A lane that holds a version reads its image whole: as long as it holds it, the region begins with the image
 /// that the version had when the lane held it first, however many versions are published in the meantime.
 pub fn a_held_image_stays_whole()
-    ensures {
-        (machine : Machine) (steps : List Step) (lane epoch version region : ℕ)
+    ensures { (machine : Machine) (steps : List Step) (lane epoch version region : ℕ)
         → IsReached machine → AreAllowed machine steps → Holds machine lane epoch version region
         → Holds (run machine steps) lane epoch version region
-        → BeginsWith (words_of (run machine steps) region) (image_of machine version)
-    }
-{
-}
+        → BeginsWith (words_of (run machine steps) region) (image_of machine version) }
+{}
 
 /// No word of a region is stored while a lane holds it, and no step that is allowed changes the region's words.
 pub fn a_held_region_is_not_stored()
-    ensures words {
-        (machine : Machine) (step : Step) (lane epoch version region : ℕ)
+    ensures words { (machine : Machine) (step : Step) (lane epoch version region : ℕ)
         → IsReached machine → Holds machine lane epoch version region → May machine step
-        → words_of (after machine step) region ≡ words_of machine region
-    }
-    ensures not_stored {
-        (machine : Machine) (lane epoch version region place word : ℕ)
-        → IsReached machine → Holds machine lane epoch version region → ¬ May machine (W1 region place word)
-    }
-{
-}
+        → words_of (after machine step) region ≡ words_of machine region }
+    ensures not_stored { (machine : Machine) (lane epoch version region place word : ℕ)
+        → IsReached machine → Holds machine lane epoch version region → ¬ May machine (W1 region place word) }
+{}
 
 /// The published region always begins with the last image, which is that of the published version.
 pub fn the_published_region_holds_the_last_image()
     ensures count { (machine : Machine) → IsReached machine → length machine.images ≡ machine.version + 1 }
-    ensures words {
-        (machine : Machine) → IsReached machine
-        → BeginsWith (words_of machine machine.region) (image_of machine machine.version)
-    }
-{
-}
+    ensures words { (machine : Machine) → IsReached machine
+        → BeginsWith (words_of machine machine.region) (image_of machine machine.version) }
+{}
 
 /// A version never goes down, and its image stays the same from then on.
 pub fn a_version_never_goes_down()
     ensures version { (machine : Machine) (steps : List Step) → machine.version ≤ (run machine steps).version }
-    ensures image {
-        (machine : Machine) (steps : List Step) (version : ℕ)
+    ensures image { (machine : Machine) (steps : List Step) (version : ℕ)
         → IsReached machine → AreAllowed machine steps → version ≤ machine.version
-        → image_of (run machine steps) version ≡ image_of machine version
-    }
-{
-}
+        → image_of (run machine steps) version ≡ image_of machine version }
+{}
 
 /// What a lane holds later is no older version than what it held before, nor than what was published when it
 /// held nothing.
 pub fn a_lane_never_goes_back()
-    ensures held {
-        (machine : Machine) (steps : List Step) (lane epoch version region later next place : ℕ)
+    ensures held { (machine : Machine) (steps : List Step) (lane epoch version region later next place : ℕ)
         → IsReached machine → AreAllowed machine steps → Holds machine lane epoch version region
-        → Holds (run machine steps) lane later next place → version ≤ next
-    }
-    ensures published {
-        (machine : Machine) (steps : List Step) (lane epoch version region : ℕ)
+        → Holds (run machine steps) lane later next place → version ≤ next }
+    ensures published { (machine : Machine) (steps : List Step) (lane epoch version region : ℕ)
         → AreAllowed machine steps → HoldsNothing machine lane
-        → Holds (run machine steps) lane epoch version region → machine.version ≤ version
-    }
-{
-}
+        → Holds (run machine steps) lane epoch version region → machine.version ≤ version }
+{}

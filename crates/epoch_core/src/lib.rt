@@ -15,15 +15,14 @@ mod start;
 mod state;
 mod step;
 mod take;
-
 #[cfg(test)]
 mod tests;
 
-
 pub use lane::LaneState;
 pub use laws::{
-    a_held_image_stays_whole, a_held_region_is_not_stored, a_lane_never_goes_back, a_version_never_goes_down,
-    the_published_region_holds_the_last_image, the_rule_holds_in_every_schedule,
+    a_held_image_stays_whole, a_held_region_is_not_stored, a_lane_never_goes_back,
+    a_version_never_goes_down, the_published_region_holds_the_last_image,
+    the_rule_holds_in_every_schedule,
 };
 pub use list::List;
 pub use state::State;

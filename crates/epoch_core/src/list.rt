@@ -96,7 +96,12 @@ impl List<List<u64>> {
     }
 
     /// Stores a value in one of the lists, or adds it where it is stored at that list's end.
-    pub(crate) fn store_in(&mut self, index: usize, place: usize, value: u64) -> Result<(), AllocError>
+    pub(crate) fn store_in(
+        &mut self,
+        index: usize,
+        place: usize,
+        value: u64,
+    ) -> Result<(), AllocError>
         requires outer { index < length self.old }
         requires inner { place ≤ length (slice_index_or self.old index []) }
         ensures ok { OnOk result (self.new ≡ slice_set self.old index (stored (slice_index_or self.old index []) place value)) }

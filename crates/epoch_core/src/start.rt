@@ -4,16 +4,20 @@ ghost use Rattle.std.specs.Prelude.{◌≡◌, ℕ, ◌-◌, ◌≤◌, [], ◌�
 ghost use Rattle.epoch_core.specs.Machine.{first};
 ghost use Rattle.epoch_core.specs.Runs.{AreWithinLimits};
 
-use std::alloc::{AllocError, Global};
-
 use crate::lane::LaneState;
 use crate::list::List;
 use crate::state::State;
+use std::alloc::{AllocError, Global};
 
 impl State {
     /// The state at the start: the image is published as version 0 in region 0, the other of the 2 to 8 regions
     /// are empty, and the 1 to 16 lanes are idle.
-    pub fn first(alloc: Global, regions: u32, lanes: u32, image: &[u64]) -> Result<State, AllocError>
+    pub fn first(
+        alloc: Global,
+        regions: u32,
+        lanes: u32,
+        image: &[u64],
+    ) -> Result<State, AllocError>
         requires { AreWithinLimits regions lanes }
         ensures { IfOk result (λ state. state ≡ first regions lanes image.now) }
     {

@@ -5,11 +5,10 @@ ghost use Rattle.std.specs.List.{All};
 ghost use Rattle.epoch_core.specs.Machine.{lane_state, words_of, retirement, clearings};
 ghost use Rattle.epoch_core.specs.Steps.{May, NamesWhatIsThere, IsIdle, Holds, EveryLaneIsCleared, NoOtherIsWritten};
 
-use std::marker::Model;
-
 use crate::lane::LaneState;
 use crate::list::List;
 use crate::step::Step;
+use std::marker::Model;
 
 /// A state of the machine. It keeps the rule of the machine, whatever steps were taken.
 #[derive(Debug, Drop)]

@@ -4,11 +4,10 @@ ghost use Rattle.std.specs.Prelude.{◌≡◌, OnOk, OnErr};
 ghost use Rattle.epoch_core.specs.Machine.{is_cleared};
 ghost use Rattle.epoch_core.specs.Steps.{May, TakesMemory, after, loaded_epoch, is_past};
 
-use std::alloc::AllocError;
-
 use crate::lane::LaneState;
 use crate::state::State;
 use crate::step::Step;
+use std::alloc::AllocError;
 
 impl State {
     /// Takes a step. Only `W1`, where the region grows, and `W2` take memory; after want of it the state is as it was.
@@ -37,7 +36,11 @@ impl State {
                 self.let_go(lane);
                 Ok(())
             }
-            Step::W1 { region, place, word } => self.store_word(region, place, word),
+            Step::W1 {
+                region,
+                place,
+                word,
+            } => self.store_word(region, place, word),
             Step::W2 { region, length } => self.publish(region, length),
             Step::W3 => {
                 self.store_epoch();
@@ -77,7 +80,14 @@ impl State {
         let epoch = self.lane(lane).epoch();
         let version = self.version;
         let region = self.region;
-        self.lanes.set(lane as usize, LaneState::Holding { epoch, version, region });
+        self.lanes.set(
+            lane as usize,
+            LaneState::Holding {
+                epoch,
+                version,
+                region,
+            },
+        );
     }
 
     fn let_go(&mut self, lane: u32)
@@ -131,7 +141,8 @@ impl State {
     {
         let pin = self.pins.items()[lane as usize];
         let is_cleared = self.is_cleared(region, lane) || cannot_hold(pin, self.retirement(region));
-        self.cleared.set_in(region as usize, lane as usize, is_cleared);
+        self.cleared
+            .set_in(region as usize, lane as usize, is_cleared);
     }
 
     fn is_cleared(&self, region: u32, lane: u32) -> bool

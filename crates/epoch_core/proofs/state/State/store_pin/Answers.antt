@@ -5,4 +5,4 @@ use Rattle.epoch_core.proofs.state.State.store_pin.Goals as goal
 pub invariant_of-self : goal.invariant_of-self
 invariant_of-self c =
     rw (c.set.ensures, c.set-2.ensures, c.epoch-epoch.ensures, c.lane.ensures, ← c.self.view_is)
-        (store_pin_kept _ c.args.lane (rw (← c.self.view_is) at c.requires) c.self.invariant)
+    (store_pin_kept _ c.args.lane (rw (← c.self.view_is) at c.requires) c.self.invariant)
