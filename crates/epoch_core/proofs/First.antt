@@ -1,14 +1,14 @@
 -- The first state keeps the rule.
-use Rattle.std.proofs.Common.{◌≡◌, ◌≢◌, ℕ, zero, suc, ◌+◌, ◌-◌, ◌<◌, ◌≤◌, Bool, true, false, List, [], ◌∷◌, length, replicate, get_or, Option, Some, None, inl, inr, sym, subst, refl, ap, arith, ◌∙◌}
+use Rattle.std.proofs.Common.{◌≡◌, ◌≢◌, ℕ, zero, suc, ◌+◌, ◌-◌, ◌<◌, Bool, true, false, List, [], ◌∷◌, length, replicate, get_or, Option, None, inl, inr, sym, subst, refl, arith, ◌∙◌}
 use Rattle.std.specs.List.{All}
 use Rattle.std.proofs.lemmas.Bool.Decides.{leb_tells}
 use Rattle.std.proofs.lemmas.List.{get_or_past, get_or-replicate, length-replicate}
 use Rattle.std.proofs.lemmas.List.Elements.{All-replicate, All-cons}
 use Rattle.std.proofs.Math.Seq.{take-length}
 use Rattle.epoch_core.specs.declared.lane.LaneState.{LaneState}
-use Rattle.epoch_core.specs.declared.lane.LaneState.TheVariants.{Idle, Loaded, Pinned, Holding}
-use Rattle.epoch_core.specs.Machine.{Machine, first, lane_state, pin_of, words_of, image_of, retirement, is_cleared, clearings}
-use Rattle.epoch_core.specs.Rule.{RegionRule, IsWellFormed, Announces, IsSafe, IsSpare}
+use Rattle.epoch_core.specs.declared.lane.LaneState.TheVariants.{Idle, Holding}
+use Rattle.epoch_core.specs.Machine.{first}
+use Rattle.epoch_core.specs.Rule.{RegionRule, Announces, IsSpare}
 use Rattle.epoch_core.specs.Runs.{AreWithinLimits}
 
 -- what is repeated reads the same everywhere, where it is the default too

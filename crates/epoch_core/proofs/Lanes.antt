@@ -1,15 +1,14 @@
 -- The steps of the lanes keep the rule.
-use Rattle.std.proofs.Common.{◌≡◌, ◌≢◌, ℕ, ◌+◌, ◌<◌, ◌≤◌, ◌⊎◌, Bool, true, false, List, [], length, get_or, set, Option, Some, None, inl, inr, sym, subst, refl, ap, arith, ◌∙◌}
-use Rattle.std.specs.List.{All}
+use Rattle.std.proofs.Common.{◌≡◌, ℕ, ◌+◌, ◌<◌, ◌≤◌, List, length, get_or, set, inl, inr, sym, subst, refl, ap, arith, ◌∙◌}
 use Rattle.std.proofs.lemmas.Bool.Decides.{eqb_tells}
 use Rattle.std.proofs.lemmas.Grind.{get_or-set_at}
 use Rattle.std.proofs.lemmas.List.{get_or-set_other, length-set, set-get_or}
 use Rattle.epoch_core.specs.declared.lane.LaneState.{LaneState}
 use Rattle.epoch_core.specs.declared.lane.LaneState.TheVariants.{Idle, Loaded, Pinned, Holding}
 use Rattle.epoch_core.specs.declared.step.Step.TheVariants.{L1, L2, L3, L5}
-use Rattle.epoch_core.specs.Machine.{Machine, lane_state, pin_of, words_of, image_of, retirement, is_cleared, clearings}
-use Rattle.epoch_core.specs.Steps.{Holds, May, after, loaded_epoch}
-use Rattle.epoch_core.specs.Rule.{RegionRule, IsWellFormed, Announces, IsSafe}
+use Rattle.epoch_core.specs.Machine.{Machine, lane_state, pin_of, clearings}
+use Rattle.epoch_core.specs.Steps.{May, after, loaded_epoch}
+use Rattle.epoch_core.specs.Rule.{RegionRule, Announces, IsSafe}
 use Rattle.epoch_core.proofs.Lists.{read_after_set, is_within, none_reads}
 
 announced_after : (now : ℕ) (lanes : List LaneState) (pins : List ℕ) (lane other : ℕ) (state : LaneState) (pin : ℕ) →

@@ -1,6 +1,5 @@
 -- A step that may be taken names a lane and a region that are there.
-use Rattle.std.proofs.Common.{◌≡◌, ℕ, ◌<◌, length, Option, Some, None, arith}
-use Rattle.epoch_core.specs.declared.lane.LaneState.{LaneState}
+use Rattle.std.proofs.Common.{Some, None, arith}
 use Rattle.epoch_core.specs.declared.lane.LaneState.TheVariants.{Idle, Loaded, Pinned, Holding}
 use Rattle.epoch_core.specs.declared.step.Step.{Step}
 use Rattle.epoch_core.specs.declared.step.Step.TheVariants.{L1, L2, L3, L4, L5, W1, W2, W3, W4, S, J}

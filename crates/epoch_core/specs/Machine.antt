@@ -1,6 +1,6 @@
 -- The state of the region machine, after Fraser's epoch-based reclamation: one loader writes images into
 -- regions and publishes them, and lanes announce in their pins the epoch in which they began to read.
-use Rattle.std.specs.Prelude.{ℕ, ◌+◌, ◌-◌, Bool, true, false, List, [], ◌∷◌, length, replicate, slice_index_or, Option, Some, None}
+use Rattle.std.specs.Prelude.{ℕ, ◌-◌, Bool, true, false, List, [], ◌∷◌, replicate, slice_index_or, Option, None}
 use Rattle.epoch_core.specs.declared.lane.LaneState.{LaneState}
 use Rattle.epoch_core.specs.declared.lane.LaneState.TheVariants.{Idle}
 

@@ -1,5 +1,5 @@
 -- The rule of the region machine: it holds in the first state, and each step keeps it.
-use Rattle.std.specs.Prelude.{◌≡◌, ◌≢◌, ℕ, ◌+◌, ◌<◌, ◌≤◌, ◌⊎◌, ◌^◌, Bool, true, false, List, length, take, Option, Some, None}
+use Rattle.std.specs.Prelude.{◌≡◌, ◌≢◌, ℕ, ◌+◌, ◌<◌, ◌≤◌, ◌⊎◌, ◌^◌, false, List, length, take, Option, Some, None}
 use Rattle.std.specs.List.{All}
 use Rattle.epoch_core.specs.declared.lane.LaneState.{LaneState}
 use Rattle.epoch_core.specs.declared.lane.LaneState.TheVariants.{Idle, Loaded, Pinned, Holding}

@@ -1,5 +1,5 @@
 -- Whole schedules of the region machine: every list of steps, each of which may be taken where it is taken.
-use Rattle.std.specs.Prelude.{◌≡◌, ℕ, ◌≤◌, List, [], ◌∷◌, ◌++◌}
+use Rattle.std.specs.Prelude.{◌≡◌, ℕ, ◌≤◌, List, [], ◌∷◌}
 use Rattle.epoch_core.specs.declared.step.Step.{Step}
 use Rattle.epoch_core.specs.Machine.{Machine, first}
 use Rattle.epoch_core.specs.Steps.{May, after}

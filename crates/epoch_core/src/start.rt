@@ -1,6 +1,6 @@
 //! The first state.
 
-ghost use Rattle.std.specs.Prelude.{◌≡◌, ℕ, ◌-◌, ◌≤◌, [], ◌∷◌, replicate, true, false, IfOk};
+ghost use Rattle.std.specs.Prelude.{◌≡◌, ◌-◌, ◌≤◌, [], ◌∷◌, replicate, true, false, IfOk};
 ghost use Rattle.epoch_core.specs.Machine.{first};
 ghost use Rattle.epoch_core.specs.Runs.{AreWithinLimits};
 

@@ -1,9 +1,8 @@
 //! The state of the machine, and which steps it allows.
 
-ghost use Rattle.std.specs.Prelude.{◌≡◌, ◌≢◌, ◌↔◌, ℕ, ◌<◌, ◌≤◌, IsTrue, Option, length, slice_index_or};
-ghost use Rattle.std.specs.List.{All};
-ghost use Rattle.epoch_core.specs.Machine.{lane_state, words_of, retirement, clearings};
-ghost use Rattle.epoch_core.specs.Steps.{May, NamesWhatIsThere, IsIdle, Holds, EveryLaneIsCleared, NoOtherIsWritten};
+ghost use Rattle.std.specs.Prelude.{◌≡◌, ◌↔◌, ℕ, IsTrue, length};
+ghost use Rattle.epoch_core.specs.Machine.{lane_state, words_of, retirement};
+ghost use Rattle.epoch_core.specs.Steps.{May, NamesWhatIsThere, IsIdle, EveryLaneIsCleared, NoOtherIsWritten};
 
 use crate::lane::LaneState;
 use crate::list::List;

@@ -1,7 +1,4 @@
 -- Whether a word may be stored does not depend on the word.
-use Rattle.std.proofs.Common.{◌↔◌, IsTrue}
-use Rattle.epoch_core.specs.declared.step.Step.{Step}
-use Rattle.epoch_core.specs.Steps.{May}
 use Rattle.epoch_core.proofs.state.State.may.Goals as goal
 
 pub returns-in-W1-clause-exact : goal.returns-in-W1-clause-exact

@@ -1,5 +1,5 @@
 -- The rule is kept, since the new state is the one after the step.
-use Rattle.std.proofs.Common.{◌≡◌, ◌<◌, [], length, get_or, arith}
+use Rattle.std.proofs.Common.{◌≡◌, [], length, get_or, arith}
 use Rattle.epoch_core.proofs.Loader.{publish_kept}
 use Rattle.epoch_core.proofs.state.State.publish.Goals as goal
 
