@@ -1,0 +1,179 @@
+//! What no clause shows: that each call succeeds with ample memory, and runs worked out by hand.
+
+ghost use Rattle.epoch_core.specs.Runs.{AreWithinLimits};
+
+use super::*;
+use std::process::Abort;
+use std::test::Fail;
+
+/// A lane takes hold of version 0, the loader publishes version 1, stores the next epoch, and finds the lane's
+/// pin: the lane may still read region 0.
+static PUBLISH_UNDER_A_READER: [Step; 8] = [
+    Step::L1 { lane: 0 },
+    Step::L2 { lane: 0 },
+    Step::L3 { lane: 0 },
+    Step::W1 {
+        region: 1,
+        place: 0,
+        word: 8,
+    },
+    Step::W1 {
+        region: 1,
+        place: 1,
+        word: 9,
+    },
+    Step::W2 {
+        region: 1,
+        length: 2,
+    },
+    Step::W3,
+    Step::W4 { region: 0, lane: 0 },
+];
+
+/// The lane reads the last word that it may, and a seat is split off.
+static READ_ON: [Step; 2] = [Step::L4 { lane: 0, place: 2 }, Step::S];
+
+/// The loader stores a word of region 0, which it could not before.
+static WRITE_AGAIN: [Step; 1] = [Step::W1 {
+    region: 0,
+    place: 0,
+    word: 1,
+}];
+
+/// The lane lets go, and the loader finds its pin 0.
+static LET_GO: [Step; 2] = [Step::L5 { lane: 0 }, Step::W4 { region: 0, lane: 0 }];
+
+/// The lane lets go and announces the next epoch, and the loader finds its pin 2.
+static ANNOUNCE_AGAIN: [Step; 4] = [
+    Step::L5 { lane: 0 },
+    Step::L1 { lane: 0 },
+    Step::L2 { lane: 0 },
+    Step::W4 { region: 0, lane: 0 },
+];
+
+/// Steps that the first state of two regions and one lane does not allow.
+static TOO_EARLY: [Step; 18] = [
+    Step::L1 { lane: 1 },
+    Step::L2 { lane: 0 },
+    Step::L2 { lane: 1 },
+    Step::L3 { lane: 0 },
+    Step::L4 { lane: 0, place: 0 },
+    Step::L5 { lane: 0 },
+    Step::W1 {
+        region: 0,
+        place: 0,
+        word: 1,
+    },
+    Step::W1 {
+        region: 1,
+        place: 1,
+        word: 1,
+    },
+    Step::W1 {
+        region: 2,
+        place: 0,
+        word: 1,
+    },
+    Step::W2 {
+        region: 0,
+        length: 1,
+    },
+    Step::W2 {
+        region: 1,
+        length: 0,
+    },
+    Step::W2 {
+        region: 4294967295,
+        length: 0,
+    },
+    Step::W3,
+    Step::W4 { region: 0, lane: 0 },
+    Step::W4 { region: 1, lane: 0 },
+    Step::W4 { region: 2, lane: 0 },
+    Step::J { lane: 1 },
+    Step::J { lane: 4294967295 },
+];
+
+/// Steps that are not allowed while the lane holds region 0 after the publication.
+static UNDER_A_READER: [Step; 12] = [
+    Step::W1 {
+        region: 0,
+        place: 0,
+        word: 1,
+    },
+    Step::W1 {
+        region: 1,
+        place: 0,
+        word: 1,
+    },
+    Step::W2 {
+        region: 0,
+        length: 0,
+    },
+    Step::W2 {
+        region: 1,
+        length: 2,
+    },
+    Step::W3,
+    Step::W4 { region: 0, lane: 1 },
+    Step::W4 { region: 1, lane: 0 },
+    Step::L1 { lane: 0 },
+    Step::L2 { lane: 0 },
+    Step::L3 { lane: 0 },
+    Step::L4 { lane: 0, place: 3 },
+    Step::J { lane: 0 },
+];
+
+/// Takes steps, each of which has to be allowed.
+fn take_all(rt: &impl Abort, state: &mut State, steps: &[Step]) -> Result<(), Fail> {
+    for step in steps {
+        assert!(rt; state.may(step), "{step:?}");
+        state.take(step)?;
+    }
+    Ok(())
+}
+
+/// No step is allowed.
+fn refuse_all(rt: &impl Abort, state: &State, steps: &[Step]) {
+    for step in steps {
+        assert!(rt; !state.may(step), "{step:?}");
+    }
+}
+
+/// The state after version 1 was published while a lane read version 0.
+fn published_under_a_reader(rt: &(impl Abort + AllocGlobal)) -> Result<State, Fail> {
+    let mut state = State::first(rt.alloc(), 2, 1, &[5, 6, 7])?;
+    refuse_all(rt, &state, &TOO_EARLY);
+    take_all(rt, &mut state, &PUBLISH_UNDER_A_READER)?;
+    refuse_all(rt, &state, &UNDER_A_READER);
+    take_all(rt, &mut state, &READ_ON)?;
+    Ok(state)
+}
+
+/// After these steps the loader may write region 0 again.
+fn assert_written_after(rt: &(impl Abort + AllocGlobal), steps: &[Step]) -> Result<(), Fail> {
+    let mut state = published_under_a_reader(rt)?;
+    take_all(rt, &mut state, steps)?;
+    take_all(rt, &mut state, &WRITE_AGAIN)?;
+    assert_eq!(rt; state.epoch, 1);
+    assert_eq!(rt; state.version, 1);
+    assert_eq!(rt; state.writing, Some(0));
+    Ok(())
+}
+
+/// Values of this type may go to another thread.
+fn assert_crosses<T: Send + Sync>(_value: &T) {}
+
+#[test]
+fn a_region_is_written_again_once_its_reader_is_past_it(rt: HostRuntime) -> Result<(), Fail> {
+    assert_written_after(&rt, &LET_GO)?;
+    assert_written_after(&rt, &ANNOUNCE_AGAIN)
+}
+
+#[test]
+fn a_first_state_goes_to_another_thread(rt: HostRuntime) -> Result<(), Fail> {
+    let state = State::first(rt.alloc(), 8, 16, &[])?;
+    assert_crosses(&state);
+    assert_eq!(rt; state.lanes.items().len(), 16);
+    Ok(())
+}
