@@ -1,6 +1,6 @@
 //! The steps of the machine, each of which is one load or store of one word.
 
-/// One atomic step of a lane (`L1` to `L5`, `J`) or of the loader (`W1` to `W4`, `S`).
+/// One atomic step: the first five and the last are a lane's, the others the loader's.
 #[derive(Clone, Copy, Debug, PartialEq, Eq)]
 pub enum Step {
     /// A lane loads the epoch.

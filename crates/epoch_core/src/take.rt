@@ -10,7 +10,8 @@ use crate::step::Step;
 use std::alloc::AllocError;
 
 impl State {
-    /// Takes a step. Only `W1`, where the region grows, and `W2` take memory; after want of it the state is as it was.
+    /// Takes a step. Only a stored word by which the region grows, and a publication, take memory; after want of it
+    /// the state is as it was.
     pub fn take(&mut self, step: &Step) -> Result<(), AllocError>
         requires { May self.old step.now }
         ensures ok { OnOk result (self.new ≡ after self.old step.now) }
