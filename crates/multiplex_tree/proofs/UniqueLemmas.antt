@@ -1,12 +1,15 @@
 -- Marks and links have one tree, or else one fault.
-use Rattle.std.proofs.Common.{◌≡◌, ℕ, ◌<◌, List, length, Option, Some, None, Result, Ok, sym, ◌∙◌, ap, refl, subst, inl, inr}
+use Rattle.std.proofs.Common.{◌≡◌, ℕ, ◌<◌, List, length, Option, Some, None, Result, Ok, Err, sym, ◌∙◌, ap, refl, subst, inl, inr}
 use Rattle.std.specs.Option.{IsSome, IsNone}
 use Rattle.std.proofs.Math.Nat.{eq-or-lt_of_le}
 use Rattle.std.proofs.lemmas.Bool.Decides.{leb_tells}
 use Rattle.std.proofs.lemmas.List.{ext_get_or}
 use Rattle.multiplex_tree.specs.declared.fault.MuxWhy.{MuxWhy}
 use Rattle.multiplex_tree.specs.declared.fault.MuxWhy.TheVariants.{NoParent, Ambiguous, Cycle, Deep}
-use Rattle.multiplex_tree.specs.declared.fault.MuxFault.TheVariants.{At}
+use Rattle.multiplex_tree.specs.declared.fault.MuxFault.{MuxFault}
+use Rattle.multiplex_tree.specs.declared.fault.MuxFault.TheVariants.{At, Memory}
+use Rattle.multiplex_tree.specs.declared.tree.Tree.{Tree}
+use Rattle.std.specs.Prelude.{◌⊎◌, IfOk, IfErr, IsOkAnd, IsErrOf}
 use Rattle.multiplex_tree.specs.declared.mark.Mark.{Mark}
 use Rattle.multiplex_tree.specs.declared.mark.Link.{Link}
 use Rattle.multiplex_tree.specs.declared.mark.Parent.{Parent}
@@ -98,3 +101,20 @@ module _ (marks : List Mark) (links : List Link) where
       let e : f.parents ≡ g.parents = same_parents marks links f.parents g.parents f.are_parents g.are_parents in
       let deep : IsFirstDeep (signals_above g.parents) s = subst (λ (ps : List (Option Parent)). IsFirstDeep (signals_above ps) s) e f.chains in
       absurd (never_and_ends (signals_above g.parents) t g.chains.endless (deep.ends t))
+
+module _ (marks : List Mark) (links : List Link) where
+  -- an answer that is true of marks and links is the tree that they have, or want of memory
+  pub tree_answered : (r : Result Tree MuxFault) → IfOk r (λ t. IsTree marks links t.parents) → IfErr r (IsFault marks links) →
+      (parents : List (Option Parent)) → IsTree marks links parents → IsOkAnd r (λ t. t.parents ≡ parents) ⊎ IsErrOf r Memory
+  tree_answered (Ok t) h f parents k = inl (same_tree marks links t.parents parents h k)
+  tree_answered (Err Memory) h f parents k = inr refl
+  tree_answered (Err (At s why)) h f parents k = absurd (tree_without_fault marks links parents s why k f)
+
+  -- or their fault
+  pub fault_answered : (r : Result Tree MuxFault) → IfOk r (λ t. IsTree marks links t.parents) → IfErr r (IsFault marks links) →
+      (signal : ℕ) (why : MuxWhy) → IsFault marks links (At signal why) → IsErrOf r (At signal why) ⊎ IsErrOf r Memory
+  fault_answered (Ok t) h f signal why k = absurd (tree_without_fault marks links t.parents signal why h k)
+  fault_answered (Err Memory) h f signal why k = inr refl
+  fault_answered (Err (At s because)) h f signal why k =
+      let same = same_fault marks links s signal because why f k in
+      inl (rw same.0 (rw same.1 refl))

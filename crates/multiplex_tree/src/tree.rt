@@ -1,6 +1,6 @@
 //! The tree of parents of a message's signals, and which signals are active in it.
 
-ghost use Rattle.std.specs.Prelude.{◌≡◌, ℕ, ◌<◌, ◌↔◌, List, Option, IsTrue, IfOk, IfErr, All, length, slice_get};
+ghost use Rattle.std.specs.Prelude.{◌≡◌, ℕ, ◌<◌, ◌↔◌, List, Option, IsTrue, ◌⊎◌, IfOk, IfErr, IsOkAnd, IsErrOf, All, length, slice_get};
 ghost use Rattle.std.specs.List.{list_any};
 ghost use Rattle.std.specs.Option.{option_copied, option_flatten};
 ghost use Rattle.multiplex_tree.specs.declared.fault.MuxWhy.{MuxWhy};
@@ -39,14 +39,8 @@ fn signals_above(
         .collect(alloc)
 }
 
-/// The tree of parents that marks and links make, where each signal has a clear parent or none and at most 8
-/// parents stand above it. A signal without group has no parent. Links to the others name their parent, which
-/// has to be one multiplexor; without links it is the one multiplexor without group, with that group's value.
-///
-/// The fault is the first signal without a clear parent (`NoParent`, `Ambiguous`), else the first whose chain of
-/// parents never ends (`Cycle`), else the first with more than 8 parents above it (`Deep`); or want of memory.
-/// `marks` has a mark for each signal, and each link's child is one of them.
-pub fn resolve(alloc: Global, marks: &[Mark], links: &[Link]) -> Result<Tree, MuxFault>
+/// The tree of marks and links, or their fault.
+fn tree_of(alloc: Global, marks: &[Mark], links: &[Link]) -> Result<Tree, MuxFault>
     requires { All (λ l. l.child < length marks.now) links.now }
     ensures tree { IfOk result (λ tree. IsTree marks.now links.now tree.parents) }
     ensures fault { IfErr result (IsFault marks.now links.now) }
@@ -64,6 +58,29 @@ pub fn resolve(alloc: Global, marks: &[Mark], links: &[Link]) -> Result<Tree, Mu
         }),
         Err(fault) => Err(fault),
     }
+}
+
+/// The tree of parents that marks and links make, where each signal has a clear parent or none and at most 8
+/// parents stand above it. A signal without group has no parent. Links to the others name their parent, which
+/// has to be one multiplexor; without links it is the one multiplexor without group, with that group's value.
+///
+/// The fault is the first signal without a clear parent (`NoParent`, `Ambiguous`), else the first whose chain of
+/// parents never ends (`Cycle`), else the first with more than 8 parents above it (`Deep`); or want of memory.
+/// `marks` has a mark for each signal, and each link's child is one of them.
+pub fn resolve(alloc: Global, marks: &[Mark], links: &[Link]) -> Result<Tree, MuxFault>
+    requires { All (λ l. l.child < length marks.now) links.now }
+
+    // What is answered is true of the marks and links.
+    ensures tree { IfOk result (λ tree. IsTree marks.now links.now tree.parents) }
+    ensures fault { IfErr result (IsFault marks.now links.now) }
+
+    // What is true of them is answered, unless memory runs out.
+    ensures every_tree { (parents : List (Option Parent)) → IsTree marks.now links.now parents →
+        IsOkAnd result (λ tree. tree.parents ≡ parents) ⊎ IsErrOf result MuxFault.Memory }
+    ensures every_fault { (signal : ℕ) (why : MuxWhy) → IsFault marks.now links.now (At signal why) →
+        IsErrOf result (At signal why) ⊎ IsErrOf result MuxFault.Memory }
+{
+    tree_of(alloc, marks, links)
 }
 
 /// Marks and links have one tree, or else one fault.
