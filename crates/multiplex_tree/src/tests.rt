@@ -7,7 +7,7 @@ use std::alloc::{AllocError, Global};
 use std::process::Abort;
 use std::test::Fail;
 
-/// A signal without mark, a multiplexor `M`, signals `m1` and `m2`, and `m1M`, which is both.
+/// A signal without mark, a multiplexor `M`, signals `m1` and `m2`, and `m1M` and `m2M`, which are both.
 const PLAIN: Mark = Mark {
     multiplexor: false,
     group: None,
@@ -31,6 +31,11 @@ const M2: Mark = Mark {
 const M1M: Mark = Mark {
     multiplexor: true,
     group: Some(1),
+};
+
+const M2M: Mark = Mark {
+    multiplexor: true,
+    group: Some(2),
 };
 
 /// A link's child, its parent and its ranges.
@@ -58,7 +63,7 @@ struct Case {
     answer: &'static str,
 }
 
-const CASES: [Case; 30] = [
+const CASES: [Case; 44] = [
     // Three levels, in which a value that fits under an inactive parent counts for nothing.
     Case {
         marks: &[M, M1M, M2],
@@ -83,6 +88,12 @@ const CASES: [Case; 30] = [
         links: &[(1, Some(0), &[ONE]), (2, Some(1), &[TWO_THREE])],
         raws: &[None, Some(3), Some(5)],
         answer: "-; 0: 1-1; 1: 2-3; active 0",
+    },
+    Case {
+        marks: &[M, M1M, M2],
+        links: &[(1, Some(0), &[ONE]), (2, Some(1), &[TWO_THREE])],
+        raws: &[Some(1), None, Some(5)],
+        answer: "-; 0: 1-1; 1: 2-3; active 0 1",
     },
     // Without links the parent is the one multiplexor without group.
     Case {
@@ -111,6 +122,18 @@ const CASES: [Case; 30] = [
     },
     Case {
         marks: &[M, M, M1],
+        links: &[],
+        raws: &[],
+        answer: "Ambiguous 2",
+    },
+    Case {
+        marks: &[M, M1M, M2],
+        links: &[],
+        raws: &[Some(1), Some(2), None],
+        answer: "-; 0: 1-1; 0: 2-2; active 0 1",
+    },
+    Case {
+        marks: &[M, M, M1, M1],
         links: &[],
         raws: &[],
         answer: "Ambiguous 2",
@@ -151,6 +174,24 @@ const CASES: [Case; 30] = [
         links: &[(2, Some(1), &[FIVE])],
         raws: &[Some(1), Some(5), None],
         answer: "-; -; 1: 5-5; active 0 1 2",
+    },
+    Case {
+        marks: &[M, M1M, M2],
+        links: &[(1, None, &[ONE])],
+        raws: &[],
+        answer: "NoParent 1",
+    },
+    Case {
+        marks: &[M, M, M1, M1],
+        links: &[(2, None, &[ONE])],
+        raws: &[],
+        answer: "NoParent 2",
+    },
+    Case {
+        marks: &[M, PLAIN, M1],
+        links: &[(2, Some(1), &[ONE]), (2, Some(0), &[ONE])],
+        raws: &[],
+        answer: "Ambiguous 2",
     },
     // Links to a signal without group are passed over.
     Case {
@@ -219,7 +260,30 @@ const CASES: [Case; 30] = [
         raws: &[],
         answer: "Cycle 1",
     },
-    // Eight parents are lawful, nine are not.
+    Case {
+        marks: &[M, M1M, M2M],
+        links: &[(1, Some(2), &[ONE]), (2, Some(1), &[TWO_THREE])],
+        raws: &[],
+        answer: "Cycle 1",
+    },
+    Case {
+        marks: &[M1M, M1M, M1M, M1M, M1M, M1M, M1M, M1M, M1M, M1M],
+        links: &[
+            (0, Some(1), &[ONE]),
+            (1, Some(2), &[ONE]),
+            (2, Some(3), &[ONE]),
+            (3, Some(4), &[ONE]),
+            (4, Some(5), &[ONE]),
+            (5, Some(6), &[ONE]),
+            (6, Some(7), &[ONE]),
+            (7, Some(8), &[ONE]),
+            (8, Some(9), &[ONE]),
+            (9, Some(0), &[ONE]),
+        ],
+        raws: &[],
+        answer: "Cycle 0",
+    },
+    // Eight parents are lawful, nine are not; a break leaves those above it active.
     Case {
         marks: &[M, M1M, M1M, M1M, M1M, M1M, M1M, M1M, M1M],
         links: &[
@@ -261,7 +325,115 @@ const CASES: [Case; 30] = [
         raws: &[],
         answer: "Deep 9",
     },
+    Case {
+        marks: &[M, M1M, M1M, M1M, M1M, M1M, M1M, M1M, M1M],
+        links: &[
+            (1, Some(0), &[ONE]),
+            (2, Some(1), &[ONE]),
+            (3, Some(2), &[ONE]),
+            (4, Some(3), &[ONE]),
+            (5, Some(4), &[ONE]),
+            (6, Some(5), &[ONE]),
+            (7, Some(6), &[ONE]),
+            (8, Some(7), &[ONE]),
+        ],
+        raws: &[
+            Some(0),
+            Some(1),
+            Some(1),
+            Some(1),
+            Some(1),
+            Some(1),
+            Some(1),
+            Some(1),
+            None,
+        ],
+        answer: "-; 0: 1-1; 1: 1-1; 2: 1-1; 3: 1-1; 4: 1-1; 5: 1-1; 6: 1-1; 7: 1-1; active 0",
+    },
+    Case {
+        marks: &[M, M1M, M1M, M1M, M1M, M1M, M1M, M1M, M1M],
+        links: &[
+            (1, Some(0), &[ONE]),
+            (2, Some(1), &[ONE]),
+            (3, Some(2), &[ONE]),
+            (4, Some(3), &[ONE]),
+            (5, Some(4), &[ONE]),
+            (6, Some(5), &[ONE]),
+            (7, Some(6), &[ONE]),
+            (8, Some(7), &[ONE]),
+        ],
+        raws: &[
+            Some(1),
+            Some(1),
+            Some(1),
+            Some(1),
+            Some(0),
+            Some(1),
+            Some(1),
+            Some(1),
+            None,
+        ],
+        answer: "-; 0: 1-1; 1: 1-1; 2: 1-1; 3: 1-1; 4: 1-1; 5: 1-1; 6: 1-1; 7: 1-1; active 0 1 2 3 4",
+    },
+    Case {
+        marks: &[M1M, M1M, M1M, M1M, M1M, M1M, M1M, M1M, M1M, M1M, M],
+        links: &[
+            (0, Some(1), &[ONE]),
+            (1, Some(2), &[ONE]),
+            (2, Some(3), &[ONE]),
+            (3, Some(4), &[ONE]),
+            (4, Some(5), &[ONE]),
+            (5, Some(6), &[ONE]),
+            (6, Some(7), &[ONE]),
+            (7, Some(8), &[ONE]),
+            (8, Some(9), &[ONE]),
+            (9, Some(10), &[ONE]),
+        ],
+        raws: &[],
+        answer: "Deep 0",
+    },
     // The order of the faults: no clear parent, then a circle, then depth; and the first signal of each.
+    Case {
+        marks: &[M, M1M, M1M, M1M, M1M, M1M, M1M, M1M, M1M, M1M, M1],
+        links: &[
+            (1, Some(0), &[ONE]),
+            (2, Some(1), &[ONE]),
+            (3, Some(2), &[ONE]),
+            (4, Some(3), &[ONE]),
+            (5, Some(4), &[ONE]),
+            (6, Some(5), &[ONE]),
+            (7, Some(6), &[ONE]),
+            (8, Some(7), &[ONE]),
+            (9, Some(8), &[ONE]),
+            (10, None, &[ONE]),
+        ],
+        raws: &[],
+        answer: "NoParent 10",
+    },
+    Case {
+        marks: &[M, M1M, M1M, M1M, M1M, M1M, M1M, M1M, M1M, M1M, M1],
+        links: &[
+            (1, Some(0), &[ONE]),
+            (2, Some(1), &[ONE]),
+            (3, Some(2), &[ONE]),
+            (4, Some(3), &[ONE]),
+            (5, Some(4), &[ONE]),
+            (6, Some(5), &[ONE]),
+            (7, Some(6), &[ONE]),
+            (8, Some(7), &[ONE]),
+            (9, Some(8), &[ONE]),
+            (10, None, &[ONE]),
+            (10, Some(0), &[ONE]),
+        ],
+        raws: &[],
+        answer: "Ambiguous 10",
+    },
+    Case {
+        marks: &[M, M1M, M, M1],
+        links: &[(1, Some(1), &[ONE])],
+        raws: &[],
+        answer: "Ambiguous 3",
+    },
     Case {
         marks: &[M, M1M, M1M, M1M, M1M, M1M, M1M, M1M, M1M, M1M, M1M],
         links: &[
@@ -332,7 +504,7 @@ fn tree_text(alloc: Global, tree: &Tree) -> Result<String, AllocError> {
     Ok(text)
 }
 
-/// What `resolve` and then `active` answer, in words.
+/// What `resolve` and then `active` answer, in words; a row that names no child or not each raw value is bad.
 fn answer(
     alloc: Global,
     marks: &[Mark],
@@ -340,6 +512,9 @@ fn answer(
     raws: &[Option<i128>],
 ) -> Result<String, Fail> {
     let links = links_of(alloc, marks.len(), rows)?;
+    if links.len() != rows.len() {
+        return Ok(format!(in alloc; "bad row")?);
+    }
     let tree = match resolve(alloc, marks, links.as_slice()) {
         Ok(tree) => tree,
         Err(MuxFault::At { signal, why }) => return Ok(format!(in alloc; "{why:?} {signal}")?),
@@ -347,11 +522,12 @@ fn answer(
     };
     let mut text = tree_text(alloc, &tree)?;
     text.push_str("active")?;
-    if raws.len() == tree.parents.items().len() {
-        for signal in 0..raws.len() {
-            if tree.active(raws, signal) {
-                text.push_str(format!(in alloc; " {signal}")?.as_str())?;
-            }
+    if raws.len() != tree.parents.items().len() {
+        return Ok(format!(in alloc; "bad row")?);
+    }
+    for signal in 0..raws.len() {
+        if tree.active(raws, signal) {
+            text.push_str(format!(in alloc; " {signal}")?.as_str())?;
         }
     }
     Ok(text)
@@ -363,6 +539,17 @@ fn check_cases(rt: &impl Abort, alloc: Global, cases: &[Case]) -> Result<(), Fai
         let text = answer(alloc, case.marks, case.links, case.raws)?;
         assert_eq!(rt; text.as_str(), case.answer);
     }
+    Ok(())
+}
+
+/// Values of this type may go to another thread.
+fn assert_crosses<T: Send + Sync>(_value: &T) {}
+
+#[test]
+fn a_tree_goes_to_another_thread(rt: HostRuntime) -> Result<(), Fail> {
+    let tree = resolve(rt.alloc(), &[], &[])?;
+    assert_crosses(&tree);
+    assert_eq!(rt; tree.parents.items().len(), 0);
     Ok(())
 }
 
