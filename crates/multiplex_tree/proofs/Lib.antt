@@ -3,3 +3,4 @@ pub mod ParentLemmas
 pub mod ChainLemmas
 pub mod ActivityLemmas
 pub mod UniqueLemmas
+pub mod ExistenceLemmas

@@ -83,8 +83,10 @@ pub fn resolve(alloc: Global, marks: &[Mark], links: &[Link]) -> Result<Tree, Mu
     tree_of(alloc, marks, links)
 }
 
-/// Marks and links have one tree, or else one fault.
+/// Marks and links have a tree or a fault, only one of both, and only one.
 pub fn resolution_is_unique()
+    ensures some { (marks : List Mark) (links : List Link) →
+        ((t : List (Option Parent)) × IsTree marks links t) ⊎ ((s : ℕ) × (why : MuxWhy) × IsFault marks links (At s why)) }
     ensures tree { (marks : List Mark) (links : List Link) (a b : List (Option Parent)) →
         IsTree marks links a → IsTree marks links b → a ≡ b }
     ensures fault { (marks : List Mark) (links : List Link) (s t : ℕ) (why because : MuxWhy) →
