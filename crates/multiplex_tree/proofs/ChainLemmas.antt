@@ -5,7 +5,8 @@ use Rattle.std.proofs.lemmas.Bool.Decides.{leb_tells}
 use Rattle.std.proofs.lemmas.List.{length-map}
 use Rattle.std.specs.Option.{is_some, IsNone, option_flatten, option_and_then}
 use Rattle.std.specs.Prelude.{slice_get}
-use Rattle.multiplex_tree.specs.Chain.{parent_in, next_up, ancestor, NeverEnds, AreAncestors, AreFarAbove, IsFirstSome}
+use Rattle.multiplex_tree.specs.Chain.{parent_in, next_up, ancestor, NeverEnds}
+use Rattle.multiplex_tree.specs.FarAbove.{AreAncestors, AreFarAbove, IsFirstSome}
 use Rattle.multiplex_tree.specs.Fault.{IsFirstCycle}
 
 -- some steps at the foot of a chain and the rest

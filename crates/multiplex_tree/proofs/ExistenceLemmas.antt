@@ -10,7 +10,8 @@ use Rattle.multiplex_tree.specs.declared.mark.Mark.{Mark}
 use Rattle.multiplex_tree.specs.declared.mark.Link.{Link}
 use Rattle.multiplex_tree.specs.declared.mark.Parent.{Parent}
 use Rattle.multiplex_tree.specs.Parents.{AreParents, parent_by_rules}
-use Rattle.multiplex_tree.specs.Chain.{signals_above, ancestor, Ends, IsShallow, IsFirstSome}
+use Rattle.multiplex_tree.specs.Chain.{signals_above, ancestor, Ends, IsShallow}
+use Rattle.multiplex_tree.specs.FarAbove.{IsFirstSome}
 use Rattle.multiplex_tree.specs.Fault.{IsTree, IsFault, IsFirstUnclear, IsFirstCycle, IsFirstDeep}
 use Rattle.multiplex_tree.proofs.ChainLemmas.{none_past, never_ends}
 use Rattle.multiplex_tree.proofs.ParentLemmas.{parents-more, length-more, fault_of_unclear}

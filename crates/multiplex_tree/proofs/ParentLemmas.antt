@@ -4,16 +4,19 @@ use Rattle.std.proofs.Common.{below_more}
 use Rattle.std.proofs.Math.ListN.{get_or-append}
 use Rattle.std.proofs.Common.{length-append}
 use Rattle.std.proofs.Math.Seq.{drop-cons, get_or-append_seam}
+use Rattle.std.specs.List.{list_all, flat_map}
 use Rattle.std.specs.Option.{option_to_list, ok_or, is_some}
 use Rattle.multiplex_tree.specs.declared.claim.Claim.{Claim}
-use Rattle.multiplex_tree.specs.declared.claim.Claim.TheVariants.{Unlinked, Linked, Torn}
+use Rattle.multiplex_tree.specs.declared.claim.Claim.TheVariants.{Unlinked, Linked, Divided}
 use Rattle.multiplex_tree.specs.declared.fault.MuxWhy.{MuxWhy}
 use Rattle.multiplex_tree.specs.declared.fault.MuxWhy.TheVariants.{NoParent, Ambiguous, Cycle, Deep}
 use Rattle.multiplex_tree.specs.declared.fault.MuxFault.TheVariants.{At}
 use Rattle.multiplex_tree.specs.declared.mark.Mark.{Mark}
 use Rattle.multiplex_tree.specs.declared.mark.Link.{Link}
 use Rattle.multiplex_tree.specs.declared.mark.Parent.{Parent}
-use Rattle.multiplex_tree.specs.Parents.{is_selector, selectors_from, only, parent_of_group, some_parent, marked_parent, group_at, parent_by_rules, links_to, claim_of}
+use Rattle.multiplex_tree.specs.declared.mark.Range.{Range}
+use Rattle.multiplex_tree.specs.Parents.{is_selector, selectors_from, only, parent_of_group, named_parent, linked_parent, some_parent, grouped_parent, is_same_parent, group_at, parent_by_rules, links_to}
+use Rattle.multiplex_tree.specs.Claims.{claim_of, claimed_parent, marked_parent}
 use Rattle.multiplex_tree.specs.Fault.{IsFirstUnclear, IsFault}
 
 -- the selectors from a mark on
@@ -62,12 +65,26 @@ group_at-get_or [] i d h = absurd (omega arith)
 group_at-get_or (m ∷ ms) zero d h = refl
 group_at-get_or (m ∷ ms) (suc i) d h = group_at-get_or ms i d (omega arith)
 
+told : (marks : List Mark) (n : ℕ) (parent : Option ℕ) (ranges : List Range) (same : Bool) →
+    some_parent (claimed_parent marks n (if same then Linked parent ranges else Divided))
+    ≡ some_parent (if same then named_parent marks parent ranges else Err Ambiguous)
+told marks n parent ranges true = refl
+told marks n parent ranges false = refl
+
+-- what the code keeps of the links to a signal tells its parent as the links do
+pub claim_tells : (marks : List Mark) (links : List Link) (group : Option ℕ) → marked_parent marks (claim_of links) group ≡ grouped_parent marks links group
+claim_tells marks links None = refl
+claim_tells marks [] (Some n) = refl
+claim_tells marks (l ∷ ls) (Some n) =
+    told marks n l.parent (flat_map (λ k. k.ranges) (l ∷ ls)) (list_all (λ k. is_same_parent k.parent l.parent) ls)
+
 -- what the claim on a signal makes of its mark is its parent by the rules
 pub rule_here : (marks : List Mark) (links : List Link) (claims : List Claim) (i : ℕ) (d : Mark) (e claim : Claim) (found : Result (Option Parent) MuxWhy) →
     i < length marks → i < length claims → claim ≡ get_or claims i e → get_or claims i Unlinked ≡ claim_of (links_to i links) →
     found ≡ marked_parent marks claim (get_or marks i d).group → parent_by_rules marks links i ≡ found
 rule_here marks links claims i d e claim found h k is was made =
-    rw (group_at-get_or marks i d h)
+    sym (claim_tells marks (links_to i links) (group_at marks i))
+    ∙ rw (group_at-get_or marks i d h)
     (rw (sym (is ∙ get_or-any claims i e Unlinked k ∙ was)) (sym made))
 
 not_chosen : (b : Bool) (p : Parent) (why : MuxWhy) → (why ≡ NoParent → ⊥) → some_parent (if b then Ok p else Err NoParent) ≡ Err why → ⊥
@@ -79,20 +96,24 @@ not_only [] n why h k e = h (cc)
 not_only (s ∷ []) n why h k e = cc
 not_only (s ∷ t ∷ ss) n why h k e = k (cc)
 
+not_named : (marks : List Mark) (parent : Option ℕ) (ranges : List Range) (same : Bool) (why : MuxWhy) → (why ≡ NoParent → ⊥) → (why ≡ Ambiguous → ⊥) →
+    some_parent (if same then named_parent marks parent ranges else Err Ambiguous) ≡ Err why → ⊥
+not_named marks (Some p) ranges true why h k e = not_chosen _ _ why h e
+not_named marks None ranges true why h k e = h (cc)
+not_named marks parent ranges false why h k e = k (cc)
+
 -- the rules know two faults
-rule_fault : (marks : List Mark) (claim : Claim) (group : Option ℕ) (why : MuxWhy) → (why ≡ NoParent → ⊥) → (why ≡ Ambiguous → ⊥) →
-    marked_parent marks claim group ≡ Err why → ⊥
-rule_fault marks claim None why h k e = cc
-rule_fault marks Unlinked (Some n) why h k e = not_only _ n why h k e
-rule_fault marks (Linked (Some p) ranges) (Some n) why h k e = not_chosen _ _ why h e
-rule_fault marks (Linked None ranges) (Some n) why h k e = h (cc)
-rule_fault marks Torn (Some n) why h k e = k (cc)
+rule_fault : (marks : List Mark) (links : List Link) (group : Option ℕ) (why : MuxWhy) → (why ≡ NoParent → ⊥) → (why ≡ Ambiguous → ⊥) →
+    grouped_parent marks links group ≡ Err why → ⊥
+rule_fault marks links None why h k e = cc
+rule_fault marks [] (Some n) why h k e = not_only _ n why h k e
+rule_fault marks (l ∷ ls) (Some n) why h k e = not_named marks l.parent _ _ why h k e
 
 pub fault_of_unclear : (marks : List Mark) (links : List Link) (signal : ℕ) (why : MuxWhy) → IsFirstUnclear marks links signal why → IsFault marks links (At signal why)
 fault_of_unclear marks links signal NoParent first = first
 fault_of_unclear marks links signal Ambiguous first = first
-fault_of_unclear marks links signal Cycle first = absurd (rule_fault marks _ _ Cycle (λ e. cc) (λ e. cc) first.unclear)
-fault_of_unclear marks links signal Deep first = absurd (rule_fault marks _ _ Deep (λ e. cc) (λ e. cc) first.unclear)
+fault_of_unclear marks links signal Cycle first = absurd (rule_fault marks (links_to signal links) (group_at marks signal) Cycle (λ e. cc) (λ e. cc) first.unclear)
+fault_of_unclear marks links signal Deep first = absurd (rule_fault marks (links_to signal links) (group_at marks signal) Deep (λ e. cc) (λ e. cc) first.unclear)
 
 pub length-more : {X : Type 0} → (xs : List X) (x : X) (n : ℕ) → length xs ≡ n → length (xs ++ x ∷ []) ≡ n + 1
 length-more xs x n e = simp length-append (omega arith)

@@ -1,5 +1,5 @@
 -- Chains of parents, over the list that has each signal's parent, where it has one.
-use Rattle.std.specs.Prelude.{◌≡◌, ℕ, zero, suc, ◌<◌, List, map, length, Option, Some, None, IsSome, IsNone, slice_get}
+use Rattle.std.specs.Prelude.{ℕ, zero, suc, List, map, Option, Some, None, IsSome, IsNone, slice_get}
 use Rattle.std.specs.Option.{option_flatten, option_map}
 use Rattle.multiplex_tree.specs.declared.mark.Parent.{Parent}
 
@@ -16,7 +16,7 @@ abbrev pub next_up : List (Option ℕ) → Option ℕ → Option ℕ
 next_up ups None = None
 next_up ups (Some i) = parent_in ups i
 
--- the n-th signal above: of a signal itself its parent's parent and so on, where its chain reaches so far
+-- the n-th signal above: itself at 0, its parent at 1, that one's parent at 2, where the chain reaches so far
 unfoldable pub ancestor : List (Option ℕ) → ℕ → ℕ → Option ℕ
 ancestor ups zero i = Some i
 ancestor ups (suc n) i = next_up ups (ancestor ups n i)
@@ -36,20 +36,3 @@ IsDeep ups i = IsSome (ancestor ups 9 i)
 -- at most 8 parents stand above each signal
 abbrev pub IsShallow : List (Option ℕ) → Type 0
 IsShallow ups = (i : ℕ) → IsNone (ancestor ups 9 i)
-
--- the first of n places at which there is something
-pub record IsFirstSome (n : ℕ) (f : ℕ → Option ℕ) (place : ℕ) : Type 0 where
-  pub within : place < n
-  pub here : IsSome (f place)
-  pub first : (i : ℕ) → i < place → IsNone (f i)
-
--- for each signal the one m steps above it
-pub record AreAncestors (ups : List (Option ℕ)) (m : ℕ) (far : List (Option ℕ)) : Type 0 where
-  pub number : length far ≡ length ups
-  pub each : (i : ℕ) → parent_in far i ≡ ancestor ups m i
-
--- for each signal the one above it by more steps than there are signals
-pub record AreFarAbove (ups : List (Option ℕ)) (far : List (Option ℕ)) : Type 0 where
-  pub steps : ℕ
-  pub many : length ups < steps
-  pub are_ancestors : AreAncestors ups steps far

@@ -1,7 +1,8 @@
 //! Chains of parents: how many signals stand above each, and whether their chain ends.
 
 ghost use Rattle.std.specs.Prelude.{◌≡◌, ℕ, map, IfOk, IfErr, OnOk, MatchOption, IsNone, length};
-ghost use Rattle.multiplex_tree.specs.Chain.{parent_in, next_up, ancestor as nth_above, IsShallow, IsFirstSome, AreFarAbove};
+ghost use Rattle.multiplex_tree.specs.Chain.{parent_in, next_up, ancestor as nth_above, IsShallow};
+ghost use Rattle.multiplex_tree.specs.FarAbove.{IsFirstSome, AreFarAbove};
 ghost use Rattle.multiplex_tree.specs.Fault.{IsChainFault};
 
 use crate::{MuxFault, MuxWhy};

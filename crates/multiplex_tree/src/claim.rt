@@ -3,7 +3,8 @@
 ghost use Rattle.std.specs.Prelude.{◌≡◌, ℕ, ◌<◌, [], ◌∷◌, ◌++◌, List, IfOk, All, slice_index_or, vec_len, length};
 ghost use Rattle.multiplex_tree.specs.declared.claim.Claim.TheVariants.{Unlinked};
 ghost use Rattle.multiplex_tree.specs.declared.mark.Link.{Link};
-ghost use Rattle.multiplex_tree.specs.Parents.{claim_of, links_to};
+ghost use Rattle.multiplex_tree.specs.Claims.{claim_of};
+ghost use Rattle.multiplex_tree.specs.Parents.{links_to};
 
 use crate::{Link, List, Range};
 use std::alloc::{AllocError, Global};
@@ -20,7 +21,7 @@ pub(crate) enum Claim {
         ranges: List<Range>,
     },
     /// They name different parents.
-    Torn,
+    Divided,
 }
 
 impl Claim {
@@ -40,10 +41,10 @@ impl Claim {
                         ranges: ranges.joined(link.ranges.items())?,
                     })
                 } else {
-                    Ok(Claim::Torn)
+                    Ok(Claim::Divided)
                 }
             }
-            Claim::Torn => Ok(Claim::Torn),
+            Claim::Divided => Ok(Claim::Divided),
         }
     }
 }

@@ -1,7 +1,8 @@
 //! The parent of each signal by the rules of multiplexing.
 
 ghost use Rattle.std.specs.Prelude.{◌≡◌, ◌<◌, IfOk, IfErr, All, slice_get, length};
-ghost use Rattle.multiplex_tree.specs.Parents.{is_selector as selects, is_multiplexor, only, selectors, claimed_parent, marked_parent, AreParents};
+ghost use Rattle.multiplex_tree.specs.Parents.{is_selector as selects, is_multiplexor, only, selectors, AreParents};
+ghost use Rattle.multiplex_tree.specs.Claims.{claimed_parent, marked_parent};
 ghost use Rattle.multiplex_tree.specs.Fault.{IsFault};
 
 use crate::claim::{Claim, claims_of};
@@ -77,7 +78,7 @@ fn claimed(
             }
         }
         Claim::Linked { parent: None, .. } => Ok(Err(MuxWhy::NoParent)),
-        Claim::Torn => Ok(Err(MuxWhy::Ambiguous)),
+        Claim::Divided => Ok(Err(MuxWhy::Ambiguous)),
     }
 }
 

@@ -1,5 +1,5 @@
 use Rattle.std.proofs.Common.{◌≤◌, ◌-◌, length}
-use Rattle.multiplex_tree.specs.Chain.{AreAncestors}
+use Rattle.multiplex_tree.specs.FarAbove.{AreAncestors}
 use Rattle.multiplex_tree.proofs.chain.far_above.Given as goal
 
 abbrev pub invariant-loop-steps : goal.invariant-loop-steps

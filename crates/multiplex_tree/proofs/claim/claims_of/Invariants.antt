@@ -1,6 +1,7 @@
 use Rattle.std.proofs.Common.{◌≡◌, ℕ, slice_index_or, vec_len, take}
 use Rattle.multiplex_tree.specs.declared.claim.Claim.TheVariants.{Unlinked}
-use Rattle.multiplex_tree.specs.Parents.{claim_of, links_to}
+use Rattle.multiplex_tree.specs.Claims.{claim_of}
+use Rattle.multiplex_tree.specs.Parents.{links_to}
 use Rattle.multiplex_tree.proofs.claim.claims_of.Given as goal
 
 -- The claims are those of the links so far.

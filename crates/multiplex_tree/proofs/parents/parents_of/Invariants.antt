@@ -1,6 +1,7 @@
 use Rattle.std.proofs.Common.{◌≡◌, ℕ, ◌<◌, ◌≤◌, slice_index_or, length, Ok, None}
 use Rattle.multiplex_tree.specs.declared.claim.Claim.TheVariants.{Unlinked}
-use Rattle.multiplex_tree.specs.Parents.{claim_of, links_to, parent_by_rules}
+use Rattle.multiplex_tree.specs.Claims.{claim_of}
+use Rattle.multiplex_tree.specs.Parents.{links_to, parent_by_rules}
 use Rattle.multiplex_tree.proofs.parents.parents_of.Given as goal
 
 -- The signals so far have these parents, and the claims on the others are still there.
