@@ -3,9 +3,9 @@ use Rattle.std.proofs.Common.{◌≡◌, ℕ, zero, suc, ◌+◌, ◌<◌, ◌�
 use Rattle.std.proofs.Math.Nat.{eq-or-lt_of_le}
 use Rattle.std.proofs.lemmas.Bool.Decides.{leb_tells}
 use Rattle.std.proofs.lemmas.List.{length-map}
-use Rattle.std.specs.Option.{is_some, IsNone, option_flatten, option_and_then}
-use Rattle.std.specs.Prelude.{slice_get}
-use Rattle.multiplex_tree.specs.Chain.{parent_in, next_up, ancestor, NeverEnds}
+use Rattle.std.specs.Option.{is_some, IsSome, IsNone, option_flatten, option_and_then}
+use Rattle.std.specs.Prelude.{slice_get, ◌↔◌}
+use Rattle.multiplex_tree.specs.Chain.{parent_in, next_up, ancestor, Ends, at_end, further_up, NeverEnds}
 use Rattle.multiplex_tree.specs.FarAbove.{AreAncestors, AreFarAbove, IsFirstSome}
 use Rattle.multiplex_tree.specs.Fault.{IsFirstCycle}
 
@@ -167,9 +167,9 @@ within_of_reach ups n i h =
       | inr within ↦ within.1
     ]
 
--- a chain with more parents than there are signals never ends
-pub never_ends : (ups : List (Option ℕ)) (m i : ℕ) → length ups < m → reaches ups m i ≡ true → NeverEnds ups i
-never_ends ups m i h far k =
+-- a chain with more parents than there are signals reaches any number of them
+reaches_all : (ups : List (Option ℕ)) (m i : ℕ) → length ups < m → reaches ups m i ≡ true → (k : ℕ) → reaches ups k i ≡ true
+reaches_all ups m i h far k =
     let n = length ups in
     let split : (m - suc n) + suc n ≡ m = omega arith in
     let here : reaches ups (suc n) i ≡ true = reaches-less ups (suc n) (m - suc n) i (rw split far) in
@@ -181,6 +181,42 @@ never_ends ups m i h far k =
           reaches-less ups k (suc found.0) i (rw turned at (reaches-on ups (suc found.0) k i found.2 low)))
       | inr few ↦ absurd (omega (arith, few, count-some (reaches ups (suc n)) n i (within_of_reach ups n i here) here))
     ]
+
+pub some_none : (o : Option ℕ) → IsSome o → IsNone o → ⊥
+some_none None s n = cc
+some_none (Some x) s n = cc
+
+ends_by : (ups : List (Option ℕ)) (n i : ℕ) → ((j : ℕ) → IsNone (ancestor ups n j) → Ends ups j) →
+    (o : Option ℕ) → parent_in ups i ≡ o → IsNone (option_and_then (ancestor ups n) o) → Ends ups i
+ends_by ups n i above None e h = at_end e
+ends_by ups n i above (Some p) e h = further_up p e (above p h)
+
+-- a chain that does not reach some number of parents ends
+pub ends_of_none : (ups : List (Option ℕ)) (n i : ℕ) → IsNone (ancestor ups n i) → Ends ups i
+unfolding ancestor
+ends_of_none ups zero i h = absurd (let none : IsNone (Some i) = h in cc)
+ends_of_none ups (suc n) i h = ends_by ups n i (ends_of_none ups n) (parent_in ups i) refl (rw (ancestor-first ups n i) at h)
+
+-- and one that ends does not reach some number of them
+pub none_of_ends : (ups : List (Option ℕ)) (i : ℕ) → Ends ups i → (n : ℕ) × IsNone (ancestor ups n i)
+none_of_ends ups i (at_end e) = (suc zero, rw (ancestor-first ups zero i) (rw e refl))
+none_of_ends ups i (further_up p e above) =
+    let up : (n : ℕ) × IsNone (ancestor ups n p) = none_of_ends ups p above in
+    (suc up.0, rw (ancestor-first ups up.0 i) (rw e up.1))
+
+some_unless : (o : Option ℕ) → (IsNone o → ⊥) → IsSome o
+some_unless None h = absurd (h refl)
+some_unless (Some x) h = refl
+
+-- a chain never ends exactly where it reaches any number of parents
+pub never_ends_is_reaching : (ups : List (Option ℕ)) (i : ℕ) → NeverEnds ups i ↔ ((n : ℕ) → IsSome (ancestor ups n i))
+never_ends_is_reaching ups i =
+    (λ never n. some_unless (ancestor ups n i) (λ none. never (ends_of_none ups n i none)),
+    λ all ends. let up : (n : ℕ) × IsNone (ancestor ups n i) = none_of_ends ups i ends in some_none _ (all up.0) up.1)
+
+-- a chain with more parents than there are signals never ends
+pub never_ends : (ups : List (Option ℕ)) (m i : ℕ) → length ups < m → reaches ups m i ≡ true → NeverEnds ups i
+never_ends ups m i h far = (never_ends_is_reaching ups i).1 (reaches_all ups m i h far)
 
 -- nothing stands above a signal that is not there
 pub none_past : (ups : List (Option ℕ)) (n i : ℕ) → 0 < n → length ups ≤ i → IsNone (ancestor ups n i)
@@ -217,5 +253,9 @@ first_cycle ups far read signal same h found =
     record {
       within = rw (← h.are_ancestors.number) (rw (← same) found.within);
       endless = never_ends ups h.steps signal h.many there;
-      first = λ i less. (h.steps, rw (← h.are_ancestors.each i) (rw (← same) (found.first i less)));
+      first = λ i less. ends_of_none ups h.steps i (rw (← h.are_ancestors.each i) (rw (← same) (found.first i less)));
     }
+
+-- where no signal has one so far above it, each chain ends
+pub all_end : (ups far read : List (Option ℕ)) → read ≡ far → AreFarAbove ups far → ((i : ℕ) → IsNone (parent_in read i)) → (i : ℕ) → Ends ups i
+all_end ups far read same h none i = ends_of_none ups h.steps i (rw (← h.are_ancestors.each i) (rw (← same) (none i)))

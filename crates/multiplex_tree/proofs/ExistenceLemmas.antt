@@ -13,7 +13,7 @@ use Rattle.multiplex_tree.specs.Parents.{AreParents, parent_by_rules}
 use Rattle.multiplex_tree.specs.Chain.{signals_above, ancestor, Ends, IsShallow}
 use Rattle.multiplex_tree.specs.FarAbove.{IsFirstSome}
 use Rattle.multiplex_tree.specs.Fault.{IsTree, IsFault, IsFirstUnclear, IsFirstCycle, IsFirstDeep}
-use Rattle.multiplex_tree.proofs.ChainLemmas.{none_past, never_ends}
+use Rattle.multiplex_tree.proofs.ChainLemmas.{none_past, never_ends, ends_of_none}
 use Rattle.multiplex_tree.proofs.ParentLemmas.{parents-more, length-more, fault_of_unclear}
 
 none_or_some : (f : ℕ → Option ℕ) (n : ℕ) (o : Option ℕ) → f n ≡ o → ((i : ℕ) → i < n → IsNone (f i)) →
@@ -49,12 +49,12 @@ chains_or_fault ups =
                 within = deep.1.within;
                 deep = deep.1.here;
                 first = deep.1.first;
-                ends = λ i. (length ups + 1, none_anywhere ups (length ups + 1) (omega arith) none i);
+                ends = λ i. ends_of_none ups (length ups + 1) i (none_anywhere ups (length ups + 1) (omega arith) none i);
               })
             | inr endless ↦ inl (endless.0, record {
                 within = endless.1.within;
                 endless = never_ends ups (length ups + 1) endless.0 (omega arith) endless.1.here;
-                first = λ i h. (length ups + 1, endless.1.first i h);
+                first = λ i h. ends_of_none ups (length ups + 1) i (endless.1.first i h);
               })
           ])
     ]

@@ -15,14 +15,11 @@ use Rattle.multiplex_tree.specs.declared.mark.Link.{Link}
 use Rattle.multiplex_tree.specs.declared.mark.Parent.{Parent}
 use Rattle.multiplex_tree.specs.Parents.{AreParents, parent_by_rules}
 use Rattle.multiplex_tree.specs.Chain.{signals_above, NeverEnds, Ends}
+use Rattle.multiplex_tree.proofs.ChainLemmas.{some_none, ends_of_none}
 use Rattle.multiplex_tree.specs.Fault.{IsTree, IsFault, IsFirstUnclear, IsFirstCycle, IsFirstDeep}
 
 same_ok : (x y : Option Parent) (r : Result (Option Parent) MuxWhy) → r ≡ Ok x → r ≡ Ok y → x ≡ y
 same_ok x y r h k = cc
-
-some_none : (o : Option ℕ) → IsSome o → IsNone o → ⊥
-some_none None s n = cc
-some_none (Some x) s n = cc
 
 same_by : (s t : ℕ) → (s < t → ⊥) → (t < s → ⊥) → s ≡ t
 same_by s t f g =
@@ -50,7 +47,7 @@ module _ (marks : List Mark) (links : List Link) where
   tree_without_fault a s Ambiguous h f = not_unclear a s Ambiguous h.parents f
   tree_without_fault a s Cycle h f =
       let e : a ≡ f.parents = same_parents a f.parents h.parents f.are_parents in
-      some_none _ (f.chains.endless 9) ((rw e at h.shallow) s)
+      f.chains.endless (ends_of_none (signals_above f.parents) 9 s ((rw e at h.shallow) s))
   tree_without_fault a s Deep h f =
       let e : a ≡ f.parents = same_parents a f.parents h.parents f.are_parents in
       some_none _ f.chains.deep ((rw e at h.shallow) s)
@@ -64,7 +61,7 @@ module _ (marks : List Mark) (links : List Link) where
       (e, (let here = sym f.unclear ∙ ap (parent_by_rules marks links) e ∙ g.unclear in cc))
 
 never_and_ends : (ups : List (Option ℕ)) (s : ℕ) → NeverEnds ups s → Ends ups s → ⊥
-never_and_ends ups s never ends = some_none _ (never ends.0) ends.1
+never_and_ends ups s never ends = never ends
 
 same_cycle : (ups : List (Option ℕ)) (s t : ℕ) → IsFirstCycle ups s → IsFirstCycle ups t → s ≡ t
 same_cycle ups s t f g = same_by s t (λ less. never_and_ends ups s f.endless (g.first s less)) (λ less. never_and_ends ups t g.endless (f.first t less))

@@ -1,5 +1,5 @@
 -- Chains of parents, over the list that has each signal's parent, where it has one.
-use Rattle.std.specs.Prelude.{ℕ, zero, suc, List, map, Option, Some, None, IsSome, IsNone, slice_get}
+use Rattle.std.specs.Prelude.{◌≡◌, ℕ, zero, suc, List, map, Option, Some, None, IsSome, IsNone, slice_get}
 use Rattle.std.specs.Option.{option_flatten, option_map}
 use Rattle.multiplex_tree.specs.declared.mark.Parent.{Parent}
 
@@ -21,13 +21,14 @@ unfoldable pub ancestor : List (Option ℕ) → ℕ → ℕ → Option ℕ
 ancestor ups zero i = Some i
 ancestor ups (suc n) i = next_up ups (ancestor ups n i)
 
+-- the chain of a signal ends where it has no parent, or where its parent's chain ends
+pub data Ends (ups : List (Option ℕ)) : ℕ → Type 0 where
+  at_end : {i : ℕ} → parent_in ups i ≡ None → Ends ups i
+  further_up : {i : ℕ} (p : ℕ) → parent_in ups i ≡ Some p → Ends ups p → Ends ups i
+
 -- no finite chain of parents from the signal reaches a signal without parent
 abbrev pub NeverEnds : List (Option ℕ) → ℕ → Type 0
-NeverEnds ups i = (n : ℕ) → IsSome (ancestor ups n i)
-
--- some number of parents above the signal is not reached
-abbrev pub Ends : List (Option ℕ) → ℕ → Type 0
-Ends ups i = (n : ℕ) × IsNone (ancestor ups n i)
+NeverEnds ups i = ¬ Ends ups i
 
 -- more than 8 parents stand above the signal
 abbrev pub IsDeep : List (Option ℕ) → ℕ → Type 0
