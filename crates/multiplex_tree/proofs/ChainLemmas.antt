@@ -210,9 +210,10 @@ some_unless (Some x) h = refl
 
 -- a chain never ends exactly where it reaches any number of parents
 pub never_ends_is_reaching : (ups : List (Option ℕ)) (i : ℕ) → NeverEnds ups i ↔ ((n : ℕ) → IsSome (ancestor ups n i))
-never_ends_is_reaching ups i =
-    (λ never n. some_unless (ancestor ups n i) (λ none. never (ends_of_none ups n i none)),
-    λ all ends. let up : (n : ℕ) × IsNone (ancestor ups n i) = none_of_ends ups i ends in some_none _ (all up.0) up.1)
+never_ends_is_reaching ups i = (
+  λ never n. some_unless (ancestor ups n i) (λ none. never (ends_of_none ups n i none)),
+  λ all ends. let up : (n : ℕ) × IsNone (ancestor ups n i) = none_of_ends ups i ends in some_none _ (all up.0) up.1,
+)
 
 -- a chain with more parents than there are signals never ends
 pub never_ends : (ups : List (Option ℕ)) (m i : ℕ) → length ups < m → reaches ups m i ≡ true → NeverEnds ups i

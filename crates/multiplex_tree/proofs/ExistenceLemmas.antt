@@ -45,17 +45,23 @@ chains_or_fault ups =
       | inl none ↦ inl (none_anywhere ups 9 (omega arith) none)
       | inr deep ↦ inr (
           elim (first_or_none (ancestor ups (length ups + 1)) (length ups)) [
-            | inl none ↦ inr (deep.0, record {
+            | inl none ↦ inr (
+              deep.0,
+              record {
                 within = deep.1.within;
                 deep = deep.1.here;
                 first = deep.1.first;
                 ends = λ i. ends_of_none ups (length ups + 1) i (none_anywhere ups (length ups + 1) (omega arith) none i);
-              })
-            | inr endless ↦ inl (endless.0, record {
+              },
+            )
+            | inr endless ↦ inl (
+              endless.0,
+              record {
                 within = endless.1.within;
                 endless = never_ends ups (length ups + 1) endless.0 (omega arith) endless.1.here;
                 first = λ i h. ends_of_none ups (length ups + 1) i (endless.1.first i h);
-              })
+              },
+            )
           ])
     ]
 
@@ -74,15 +80,22 @@ module _ (marks : List Mark) (links : List Link) where
   one_more_parent : (n : ℕ) (r : Result (Option Parent) MuxWhy) → parent_by_rules marks links n ≡ r →
       (parents : List (Option Parent)) → AreFirstParents marks links n parents →
       ((ps : List (Option Parent)) × AreFirstParents marks links (suc n) ps) ⊎ ((s : ℕ) × (why : MuxWhy) × IsFirstUnclearOf marks links (suc n) s why)
-  one_more_parent n (Ok parent) e parents so_far = inl (parents ++ parent ∷ [], record {
-    number = length-more parents parent n so_far.number ∙ add-one n;
-    each = λ i h. parents-more marks links parents n parent so_far.number so_far.each e i (omega arith);
-  })
-  one_more_parent n (Err why) e parents so_far = inr (n, why, record {
-    within = omega arith;
-    unclear = e;
-    first = λ i h. rw (so_far.each i h) refl;
-  })
+  one_more_parent n (Ok parent) e parents so_far = inl (
+    parents ++ parent ∷ [],
+    record {
+      number = length-more parents parent n so_far.number ∙ add-one n;
+      each = λ i h. parents-more marks links parents n parent so_far.number so_far.each e i (omega arith);
+    },
+  )
+  one_more_parent n (Err why) e parents so_far = inr (
+    n,
+    why,
+    record {
+      within = omega arith;
+      unclear = e;
+      first = λ i h. rw (so_far.each i h) refl;
+    },
+  )
 
   parents_or_unclear : (n : ℕ) →
       ((ps : List (Option Parent)) × AreFirstParents marks links n ps) ⊎ ((s : ℕ) × (why : MuxWhy) × IsFirstUnclearOf marks links n s why)
@@ -90,11 +103,15 @@ module _ (marks : List Mark) (links : List Link) where
   parents_or_unclear (suc n) =
       elim (parents_or_unclear n) [
         | inl so_far ↦ one_more_parent n (parent_by_rules marks links n) refl so_far.0 so_far.1
-        | inr unclear ↦ inr (unclear.0, unclear.1, record {
+        | inr unclear ↦ inr (
+          unclear.0,
+          unclear.1,
+          record {
             within = omega (arith, unclear.2.within);
             unclear = unclear.2.unclear;
             first = unclear.2.first;
-          })
+          },
+        )
       ]
 
   of_parents : (parents : List (Option Parent)) → AreParents marks links parents →
@@ -113,9 +130,13 @@ module _ (marks : List Mark) (links : List Link) where
   tree_or_fault =
       elim (parents_or_unclear (length marks)) [
         | inl found ↦ of_parents found.0 (record { number = found.1.number; each = found.1.each })
-        | inr unclear ↦ inr (unclear.0, unclear.1, fault_of_unclear marks links unclear.0 unclear.1 (record {
+        | inr unclear ↦ inr (
+          unclear.0,
+          unclear.1,
+          fault_of_unclear marks links unclear.0 unclear.1 (record {
             within = unclear.2.within;
             unclear = unclear.2.unclear;
             first = unclear.2.first;
-          }))
+          }),
+        )
       ]

@@ -1,7 +1,7 @@
 //! Chains of parents: how many signals stand above each, and whether their chain ends.
 
 ghost use Rattle.std.specs.Prelude.{◌≡◌, ℕ, map, IfOk, IfErr, OnOk, MatchOption, IsNone, length};
-ghost use Rattle.multiplex_tree.specs.Chain.{parent_in, next_up, ancestor as nth_above, IsShallow};
+ghost use Rattle.multiplex_tree.specs.Chain.{parent_in, next_up, ancestor, IsShallow};
 ghost use Rattle.multiplex_tree.specs.FarAbove.{IsFirstSome, AreFarAbove};
 ghost use Rattle.multiplex_tree.specs.Fault.{IsChainFault};
 
@@ -15,18 +15,12 @@ pub(crate) const MOST_PARENTS: usize = 8;
 fn above(parents: &[Option<usize>], signal: Option<usize>) -> Option<usize>
     ensures { result ≡ next_up parents.now signal }
 {
-    match signal {
-        Some(place) => match parents.get(place) {
-            Some(parent) => *parent,
-            None => None,
-        },
-        None => None,
-    }
+    *parents.get(signal?)?
 }
 
 /// The signal `count` parents above.
-fn ancestor(parents: &[Option<usize>], count: usize, signal: usize) -> Option<usize>
-    ensures { result ≡ nth_above parents.now count signal }
+fn nth_above(parents: &[Option<usize>], count: usize, signal: usize) -> Option<usize>
+    ensures { result ≡ ancestor parents.now count signal }
 {
     let mut place = Some(signal);
     for _ in 0..count {
@@ -37,10 +31,10 @@ fn ancestor(parents: &[Option<usize>], count: usize, signal: usize) -> Option<us
 
 /// The first signal with more than 8 parents above it.
 fn first_deep(parents: &[Option<usize>]) -> Option<usize>
-    ensures { MatchOption result (IsShallow parents.now) (IsFirstSome (length parents.now) (nth_above parents.now 9)) }
+    ensures { MatchOption result (IsShallow parents.now) (IsFirstSome (length parents.now) (ancestor parents.now 9)) }
 {
     for signal in 0..parents.len() {
-        if ancestor(parents, MOST_PARENTS + 1, signal).is_some() {
+        if nth_above(parents, MOST_PARENTS + 1, signal).is_some() {
             return Some(signal);
         }
     }

@@ -3,22 +3,26 @@
 use thiserror::Error;
 
 /// Why a signal has no place in a tree of parents.
-#[derive(Clone, Copy, Debug, PartialEq, Eq)]
+#[derive(Clone, Copy, Debug, PartialEq, Eq, Error)]
 pub enum MuxWhy {
     /// No signal is its parent, or the one that a link names is no multiplexor.
+    #[error("no signal is its parent")]
     NoParent = 1,
     /// Several signals are its parent.
+    #[error("several signals are its parent")]
     Ambiguous = 2,
     /// Its chain of parents never ends.
+    #[error("its chain of parents never ends")]
     Cycle = 3,
     /// More than 8 parents stand above it.
+    #[error("more than 8 parents stand above it")]
     Deep = 4,
 }
 
 /// The first fault of a message's signals, with the signal's place among them, or want of memory.
 #[derive(Clone, Copy, Debug, PartialEq, Eq, Error)]
 pub enum MuxFault {
-    #[error("signal {signal} has no place in a tree: {why:?}")]
+    #[error("signal {signal} has no place in a tree: {why}")]
     At { signal: usize, why: MuxWhy },
     #[error("out of memory")]
     Memory,

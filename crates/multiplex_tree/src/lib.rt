@@ -6,7 +6,7 @@
 //!
 //! The theorem: `resolve` answers the tree of parents exactly where every signal's parent is clear and at most 8
 //! parents stand above each, else the first fault, unless memory runs out; and `Tree::active` says exactly
-//! whether every parent above a signal is open for the one below it.
+//! whether every parent above a signal selects the one below it.
 #![tactic(auto)]
 
 mod chain;

@@ -18,7 +18,8 @@ pub struct Mark {
 }
 
 /// An entry of extended multiplexing (`SG_MUL_VAL_`): `child` is there where the raw value of `parent` lies in
-/// one of the ranges. Signals are named by their places; a parent that is not among them is none.
+/// one of the ranges. Signals are named by their places; `parent` is `None` where the entry names no signal of the
+/// message.
 #[derive(Debug, Drop)]
 pub struct Link {
     pub child: usize,

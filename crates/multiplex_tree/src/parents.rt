@@ -1,7 +1,7 @@
 //! The parent of each signal by the rules of multiplexing.
 
 ghost use Rattle.std.specs.Prelude.{◌≡◌, ◌<◌, IfOk, IfErr, All, slice_get, length};
-ghost use Rattle.multiplex_tree.specs.Parents.{is_selector as selects, is_multiplexor, only, selectors, AreParents};
+ghost use Rattle.multiplex_tree.specs.Parents.{is_selector, is_multiplexor, only, selectors, AreParents};
 ghost use Rattle.multiplex_tree.specs.Claims.{claimed_parent, marked_parent};
 ghost use Rattle.multiplex_tree.specs.Fault.{IsFault};
 
@@ -11,8 +11,8 @@ use std::alloc::{AllocError, Global};
 use std::mem;
 
 /// Whether a mark is that of a multiplexor without group.
-fn is_selector(mark: &Mark) -> bool
-    ensures { result ≡ selects mark.now }
+fn is_top_selector(mark: &Mark) -> bool
+    ensures { result ≡ is_selector mark.now }
 {
     mark.multiplexor && mark.group.is_none()
 }
@@ -23,7 +23,7 @@ fn selector_of(marks: &[Mark]) -> Result<usize, MuxWhy>
 {
     let mut found = None;
     for (signal, mark) in marks.iter().enumerate() {
-        if is_selector(mark) {
+        if is_top_selector(mark) {
             if found.is_some() {
                 return Err(MuxWhy::Ambiguous);
             }
@@ -37,10 +37,7 @@ fn selector_of(marks: &[Mark]) -> Result<usize, MuxWhy>
 fn is_parent(marks: &[Mark], signal: usize) -> bool
     ensures { result ≡ is_multiplexor (slice_get marks.now signal) }
 {
-    match marks.get(signal) {
-        Some(mark) => mark.multiplexor,
-        None => false,
-    }
+    marks.get(signal).is_some_and(|mark| mark.multiplexor)
 }
 
 /// The parent of a signal in `group` whose links claim this.
@@ -95,10 +92,7 @@ fn parent_of(
 {
     match mark.group {
         None => Ok(Ok(None)),
-        Some(group) => match claimed(alloc, marks, selector, group, claim)? {
-            Ok(parent) => Ok(Ok(Some(parent))),
-            Err(why) => Ok(Err(why)),
-        },
+        Some(group) => Ok(claimed(alloc, marks, selector, group, claim)?.map(Some)),
     }
 }
 

@@ -8,9 +8,9 @@ ghost use Rattle.multiplex_tree.specs.declared.fault.MuxFault.TheVariants.{At};
 ghost use Rattle.multiplex_tree.specs.declared.mark.Mark.{Mark};
 ghost use Rattle.multiplex_tree.specs.declared.mark.Link.{Link};
 ghost use Rattle.multiplex_tree.specs.declared.mark.Parent.{Parent};
-ghost use Rattle.multiplex_tree.specs.Chain.{signals_above as signals_of, IsShallow};
+ghost use Rattle.multiplex_tree.specs.Chain.{signals_above, IsShallow};
 ghost use Rattle.multiplex_tree.specs.Fault.{IsTree, IsFault};
-ghost use Rattle.multiplex_tree.specs.Activity.{is_in_range as lies_in, parent_at as parent_in_tree, selects, is_active, IsActive};
+ghost use Rattle.multiplex_tree.specs.Activity.{is_in_range, parent_at, selects, is_active, IsActive};
 
 use crate::chain::{MOST_PARENTS, check_chains};
 use crate::parents::parents_of;
@@ -24,18 +24,15 @@ pub struct Tree {
 }
 
 /// The signals that are the parents.
-fn signals_above(
+fn parent_signals(
     alloc: Global,
     parents: &[Option<Parent>],
 ) -> Result<Vec<Option<usize>>, AllocError>
-    ensures { IfOk result (λ above. above.items ≡ signals_of parents.now) }
+    ensures { IfOk result (λ above. above.items ≡ signals_above parents.now) }
 {
     parents
         .iter()
-        .map(|parent| match parent {
-            Some(parent) => Some(parent.signal),
-            None => None,
-        })
+        .map(|parent| Some(parent.as_ref()?.signal))
         .collect(alloc)
 }
 
@@ -45,19 +42,12 @@ fn tree_of(alloc: Global, marks: &[Mark], links: &[Link]) -> Result<Tree, MuxFau
     ensures tree { IfOk result (λ tree. IsTree marks.now links.now tree.parents) }
     ensures fault { IfErr result (IsFault marks.now links.now) }
 {
-    let parents = match parents_of(alloc, marks, links) {
-        Ok(parents) => parents,
-        Err(fault) => return Err(fault),
-    };
-    let Ok(above) = signals_above(alloc, parents.as_slice()) else {
-        return Err(MuxFault::Memory);
-    };
-    match check_chains(alloc, above.as_slice()) {
-        Ok(()) => Ok(Tree {
-            parents: List::of(parents),
-        }),
-        Err(fault) => Err(fault),
-    }
+    let parents = parents_of(alloc, marks, links)?;
+    let above = parent_signals(alloc, parents.as_slice()).map_err(|_| MuxFault::Memory)?;
+    check_chains(alloc, above.as_slice())?;
+    Ok(Tree {
+        parents: List::of(parents),
+    })
 }
 
 /// The tree of parents that marks and links make, where each signal has a clear parent or none and at most 8
@@ -96,57 +86,48 @@ pub fn resolution_is_unique()
 {}
 
 /// Whether a raw value lies in a range.
-fn is_in_range(raw: i128, range: &Range) -> bool
-    ensures { result ≡ lies_in raw range.now }
+fn lies_in(raw: i128, range: &Range) -> bool
+    ensures { result ≡ is_in_range raw range.now }
 {
     i128::from(range.low) <= raw && raw <= i128::from(range.high)
 }
 
 /// Whether a raw value lies in one of the ranges.
-fn is_in_one(raw: i128, ranges: &[Range]) -> bool
-    ensures { result ≡ list_any (lies_in raw) ranges.now }
+fn is_in_any(raw: i128, ranges: &[Range]) -> bool
+    ensures { result ≡ list_any (is_in_range raw) ranges.now }
 {
-    ranges.iter().any(|range| is_in_range(raw, range))
+    ranges.iter().any(|range| lies_in(raw, range))
 }
 
 /// The raw value of a signal, where it is there.
 fn raw_at(raws: &[Option<i128>], signal: usize) -> Option<i128>
     ensures { result ≡ option_flatten (slice_get raws.now signal) }
 {
-    match raws.get(signal) {
-        Some(raw) => *raw,
-        None => None,
-    }
+    *raws.get(signal)?
 }
 
 /// Whether the parent's raw value selects the signals below it.
 fn is_selecting(parent: &Parent, raws: &[Option<i128>]) -> bool
     ensures { result ≡ selects raws.now parent.now }
 {
-    match raw_at(raws, parent.signal) {
-        Some(raw) => is_in_one(raw, parent.ranges.items()),
-        None => false,
-    }
+    raw_at(raws, parent.signal).is_some_and(|raw| is_in_any(raw, parent.ranges.items()))
 }
 
 /// The parent of a signal, where it has one.
-fn parent_at(parents: &[Option<Parent>], signal: usize) -> Option<&Parent>
-    ensures { option_copied result ≡ parent_in_tree parents.now signal }
+fn parent_above(parents: &[Option<Parent>], signal: usize) -> Option<&Parent>
+    ensures { option_copied result ≡ parent_at parents.now signal }
 {
-    match parents.get(signal) {
-        Some(Some(parent)) => Some(parent),
-        _ => None,
-    }
+    parents.get(signal)?.as_ref()
 }
 
 /// Whether each parent on the way up from a signal, at most 8, selects the signal below it.
 fn is_selected(parents: &[Option<Parent>], raws: &[Option<i128>], signal: usize) -> bool
-    requires { IsShallow (signals_of parents.now) }
+    requires { IsShallow (signals_above parents.now) }
     ensures { result ≡ is_active parents.now raws.now signal }
 {
     let mut place = signal;
     for _ in 0..MOST_PARENTS {
-        let Some(parent) = parent_at(parents, place) else {
+        let Some(parent) = parent_above(parents, place) else {
             return true;
         };
         if !is_selecting(parent, raws) {
@@ -154,6 +135,7 @@ fn is_selected(parents: &[Option<Parent>], raws: &[Option<i128>], signal: usize)
         }
         place = parent.signal;
     }
+    // After 8 parents there is none.
     true
 }
 
@@ -162,7 +144,7 @@ impl Tree {
     /// parent's raw value is there and lies in one of the ranges, both ends included. `raws` has the raw value of
     /// each signal that is there. A tree from `resolve` has at most 8 parents above a signal. Takes no memory.
     pub fn active(&self, raws: &[Option<i128>], signal: usize) -> bool
-        requires shallow { IsShallow (signals_of self.now.parents) }
+        requires shallow { IsShallow (signals_above self.now.parents) }
         requires raws { length raws.now ≡ length self.now.parents }
         requires signal { signal < length raws.now }
         ensures relation { IsTrue result ↔ IsActive self.now.parents raws.now signal }

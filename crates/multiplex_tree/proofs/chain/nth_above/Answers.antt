@@ -1,6 +1,6 @@
 use Rattle.std.proofs.Common.{ap, ◌∙◌, refl, add-one}
 use Rattle.multiplex_tree.specs.Chain.{ancestor, next_up}
-use Rattle.multiplex_tree.proofs.chain.ancestor.Goals as goal
+use Rattle.multiplex_tree.proofs.chain.nth_above.Goals as goal
 
 pub loop-init : goal.loop-init
 unfolding ancestor
