@@ -1,7 +1,7 @@
 -- Marks and links have a tree, or else a fault.
-use Rattle.std.proofs.Common.{◌≡◌, ℕ, zero, suc, ◌+◌, ◌<◌, ◌≤◌, List, [], ◌∷◌, ◌++◌, length, get_or, Option, Some, None, Result, Ok, Err, refl, ◌∙◌, arith, ◌⊎◌, inl, inr, add-one, below_more}
+use Rattle.std.proofs.Common.{◌≡◌, ℕ, zero, suc, ◌+◌, ◌<◌, List, [], ◌∷◌, ◌++◌, length, get_or, Option, Some, None, Result, Ok, Err, refl, ◌∙◌, arith, ◌⊎◌, inl, inr, add-one, below_more}
 use Rattle.std.proofs.lemmas.Bool.Decides.{leb_tells}
-use Rattle.std.specs.Option.{IsSome, IsNone}
+use Rattle.std.specs.Option.{IsNone}
 use Rattle.std.specs.Prelude.{IsOk}
 use Rattle.multiplex_tree.specs.declared.fault.MuxWhy.{MuxWhy}
 use Rattle.multiplex_tree.specs.declared.fault.MuxWhy.TheVariants.{Cycle, Deep}
@@ -10,9 +10,9 @@ use Rattle.multiplex_tree.specs.declared.mark.Mark.{Mark}
 use Rattle.multiplex_tree.specs.declared.mark.Link.{Link}
 use Rattle.multiplex_tree.specs.declared.mark.Parent.{Parent}
 use Rattle.multiplex_tree.specs.Parents.{AreParents, parent_by_rules}
-use Rattle.multiplex_tree.specs.Chain.{signals_above, ancestor, Ends, IsShallow}
+use Rattle.multiplex_tree.specs.Chain.{signals_above, ancestor, IsShallow}
 use Rattle.multiplex_tree.specs.FarAbove.{IsFirstSome}
-use Rattle.multiplex_tree.specs.Fault.{IsTree, IsFault, IsFirstUnclear, IsFirstCycle, IsFirstDeep}
+use Rattle.multiplex_tree.specs.Fault.{IsTree, IsFault, IsFirstCycle, IsFirstDeep}
 use Rattle.multiplex_tree.proofs.ChainLemmas.{none_past, never_ends, ends_of_none}
 use Rattle.multiplex_tree.proofs.ParentLemmas.{parents-more, length-more, fault_of_unclear}
 

@@ -15,7 +15,7 @@ use Rattle.multiplex_tree.specs.declared.mark.Mark.{Mark}
 use Rattle.multiplex_tree.specs.declared.mark.Link.{Link}
 use Rattle.multiplex_tree.specs.declared.mark.Parent.{Parent}
 use Rattle.multiplex_tree.specs.declared.mark.Range.{Range}
-use Rattle.multiplex_tree.specs.Parents.{is_selector, selectors_from, only, parent_of_group, named_parent, linked_parent, some_parent, grouped_parent, is_same_parent, group_at, parent_by_rules, links_to}
+use Rattle.multiplex_tree.specs.Parents.{is_selector, selectors_from, only, parent_of_group, named_parent, some_parent, grouped_parent, is_same_parent, group_at, parent_by_rules, links_to}
 use Rattle.multiplex_tree.specs.Claims.{claim_of, claimed_parent, marked_parent}
 use Rattle.multiplex_tree.specs.Fault.{IsFirstUnclear, IsFault}
 

@@ -504,7 +504,8 @@ fn tree_text(alloc: Global, tree: &Tree) -> Result<String, AllocError> {
     Ok(text)
 }
 
-/// What `resolve` and then `active` answer, in words; a row that names no child or not each raw value is bad.
+/// What `resolve` and then `active` answer, in words; or `bad row`, where a link's child is no signal, or where a
+/// tree has not as many raw values as signals.
 fn answer(
     alloc: Global,
     marks: &[Mark],
