@@ -1,5 +1,5 @@
 -- Physical values as fractions, and their shortest decimals.
-use Rattle.std.specs.Prelude.{◌≡◌, ℕ, zero, suc, ◌+◌, ◌/◌, ◌%◌, ◌^◌, ◌==◌, ℤ, pos, negsuc, ◌+ℤ◌, ◌*ℤ◌, List, [], ◌∷◌, ◌++◌, if◌then◌else◌}
+use Rattle.std.specs.Prelude.{ℕ, zero, suc, ◌+◌, ◌/◌, ◌%◌, ◌^◌, ◌==◌, ℤ, pos, negsuc, ◌+ℤ◌, ◌*ℤ◌, List, [], ◌∷◌, ◌++◌, if◌then◌else◌}
 use Rattle.std.specs.Fmt.{decimal}
 use Rattle.bench_model.specs.declared.scale.Scale.{Scale}
 use Rattle.bench_model.specs.declared.scale.Exact.{Exact}
@@ -11,10 +11,6 @@ scaled scale raw = record { num = (raw *ℤ scale.factor) +ℤ scale.offset; k =
 -- a whole number as a fraction
 abbrev pub whole : ℤ → Exact
 whole raw = record { num = raw; k = 0 }
-
--- two fractions are equal where their cross products are
-abbrev pub AreEqual : Exact → Exact → Type 0
-AreEqual a b = (a.num *ℤ pos (10 ^ b.k)) ≡ (b.num *ℤ pos (10 ^ a.k))
 
 -- the last k decimal digits of n
 unfoldable pub last_digits : ℕ → ℕ → List ℕ

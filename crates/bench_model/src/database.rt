@@ -1,6 +1,7 @@
 //! Databases of messages and their signals, and the buses of a bench.
 
-use crate::{List, Scale, Text};
+use crate::{Scale, Text};
+use multiplex_tree::List;
 
 /// The identifier of a message or frame: 29 bits where `extended`, else 11.
 #[derive(Clone, Copy, Debug, PartialEq, Eq)]

@@ -1,11 +1,13 @@
 //! A law about the definition of raw values. It has no code.
 
-ghost use Rattle.std.specs.Prelude.{◌≡◌, ℕ, List, map};
+ghost use Rattle.std.specs.Prelude.{◌≡◌, ℕ, List, map, reverse};
 ghost use Rattle.bench_model.specs.declared.database.Order.TheVariants.{Intel};
 ghost use Rattle.bench_model.specs.Raw.{bit, places, weight};
-ghost use Rattle.bench_model.specs.Weights.{intel_sum};
+ghost use Rattle.bench_model.specs.Weights.{intel_sum, upwards};
 
-/// The number of a little-endian signal is the sum of its bits' weights: the bit at `start + t` weighs `2^t`.
+/// The bits of a little-endian signal stand at `start`, `start + 1` and so on, and its number is the sum of their
+/// weights: the bit at `start + t` weighs `2^t`.
 pub fn intel_weights()
-    ensures { (bytes : List ℕ) (start n : ℕ) → weight (map (bit bytes) (places Intel start n)) ≡ intel_sum bytes start n }
+    ensures places { (start n : ℕ) → reverse (places Intel start n) ≡ upwards start n }
+    ensures weights { (bytes : List ℕ) (start n : ℕ) → weight (map (bit bytes) (places Intel start n)) ≡ intel_sum bytes start n }
 {}

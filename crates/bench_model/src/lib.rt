@@ -1,8 +1,8 @@
 //! The model of a bench: databases of messages and signals, the plain decoding of a frame under them, and
 //! the records and items that decoding gives.
 //!
-//! The readers of database files make its values, and every faster decoder is held against it: it stands
-//! on std alone, and the server's crates stand on it.
+//! The readers of database files make its values, and every faster decoder is held against it: it takes
+//! `List` from `multiplex_tree`, and the server's crates stand on it.
 //!
 //! Main theorem: `Bench::plain` gives exactly the meaning of a frame's bytes, the first matching message's
 //! signals in file order, each with its raw value bit by bit, its exact value, its unit and its label.
@@ -10,7 +10,6 @@
 
 mod database;
 mod laws;
-mod list;
 mod plain;
 mod raw;
 mod reading;
@@ -19,7 +18,6 @@ mod text;
 
 pub use database::{Bench, Bus, Coding, Database, Entry, Key, Kind, Label, Message, Order, Signal};
 pub use laws::intel_weights;
-pub use list::List;
 pub use reading::{Ask, Body, CutCause, Item, Plain, Reading, SignalValue};
 pub use scale::{Exact, Scale};
 pub use text::Text;

@@ -9,9 +9,10 @@ ghost use Rattle.bench_model.specs.Limits.{IsRaw, HasLawfulEntry, IsLawfulSignal
 
 use crate::raw::raw_of;
 use crate::{
-    Ask, Bench, Coding, Entry, Exact, Key, Kind, Label, List, Message, Plain, Scale, Signal,
-    SignalValue, Text,
+    Ask, Bench, Coding, Entry, Exact, Key, Kind, Label, Message, Plain, Scale, Signal, SignalValue,
+    Text,
 };
+use multiplex_tree::List;
 use std::alloc::{AllocError, Global};
 
 /// The parameter group number of a 29-bit identifier (SAE J1939-21).

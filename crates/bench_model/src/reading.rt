@@ -1,6 +1,7 @@
 //! What decoding gives: decoded messages, records of a log, and the items of a session.
 
-use crate::{Exact, Key, List, Text};
+use crate::{Exact, Key, Text};
+use multiplex_tree::List;
 
 /// A signal's value in one frame.
 #[derive(Debug, Drop)]

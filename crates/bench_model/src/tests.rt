@@ -2,6 +2,7 @@ ghost use Rattle.std.specs.Prelude.{◌≤◌, IfOk};
 ghost use Rattle.bench_model.specs.Limits.{IsLawfulSignal};
 
 use super::*;
+use multiplex_tree::List;
 use std::alloc::{AllocError, Global};
 use std::process::Abort;
 use std::test::*;
@@ -107,5 +108,25 @@ fn values_print_as_whole_numbers(rt: HostRuntime) -> Result<(), Fail> {
     let mut text = Vec::new(alloc);
     Exact { num: -40, k: 0 }.append(alloc, &mut text)?;
     assert_eq!(rt; text.as_slice(), b"-40".as_slice());
+    Ok(())
+}
+
+/// Such a value may go to a worker and come back from one.
+fn assert_crosses<T: Send + Sync>(_value: &T) {}
+
+#[test]
+fn values_cross_to_workers(rt: HostRuntime) -> Result<(), Fail> {
+    let alloc = rt.alloc();
+    assert_crosses(&Text::of(alloc, b"Engine")?);
+    assert_crosses(&Bench {
+        buses: List::of(Vec::new(alloc)),
+    });
+    assert_crosses(&Reading {
+        bus: 0,
+        number: 0,
+        version: 0,
+        micros: 0,
+        body: Body::Bad,
+    });
     Ok(())
 }

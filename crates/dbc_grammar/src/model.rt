@@ -7,7 +7,8 @@ ghost use Rattle.dbc_grammar.specs.Lawful.{has_id, has_name};
 ghost use Rattle.dbc_grammar.specs.Views.{field as field_of};
 
 use crate::statement::Field;
-use bench_model::{Coding, List, Message, Order, Scale, Signal, Text};
+use bench_model::{Coding, Message, Order, Scale, Signal, Text};
+use multiplex_tree::List;
 use std::alloc::{AllocError, Global};
 
 /// The signal of a line.

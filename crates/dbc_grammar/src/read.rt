@@ -12,8 +12,9 @@ ghost use Rattle.dbc_grammar.specs.Contract.{byte_limit, SpellsDatabase, IsRefus
 
 use crate::DbcFault;
 use crate::reader::Reader;
-use bench_model::{Database, List, Message};
+use bench_model::{Database, Message};
 use byte_forms::next_line;
+use multiplex_tree::List;
 use std::alloc::Global;
 
 /// How many bytes a file may have.

@@ -6,7 +6,8 @@ ghost use Rattle.std.specs.Option.{ForNone};
 
 use crate::model::{has_message, has_signal, signal};
 use crate::statement::{Field, Heading, Statement, statement_of};
-use bench_model::{Key, List, Message, Signal, Text};
+use bench_model::{Key, Message, Signal, Text};
+use multiplex_tree::List;
 use std::alloc::{AllocError, Global};
 
 /// How many signals a message may have.
