@@ -7,7 +7,8 @@ use Rattle.byte_forms.specs.Pieces.{field_before, ◌>>=◌}
 use Rattle.byte_forms.specs.Lines.{all_lines}
 use Rattle.byte_forms.proofs.PieceLaws.{bind_some, after_literal-append, after_literal_takes, field_before-append, field_before_takes}
 use Rattle.bench_server.proofs.Guards.{parts, guarded}
-use Rattle.bench_server.specs.BenchFile.{BusFiles, is_bus_name, is_file_name, IsLawfulBus, bench_line, SpellsBus, SpellsNoBus, IsBench, IsBenchFault, lawful_bus, bus_of}
+use Rattle.bench_server.specs.BenchFile.{BusFiles, is_bus_name, is_file_name, IsLawfulBus, bench_line, SpellsBus, SpellsNoBus, IsBench, IsBenchFault}
+use Rattle.bench_server.specs.BenchReading.{lawful_bus, bus_of}
 
 other_by : (line : List ℕ) (lines : List (List ℕ)) → SpellsNoBus line → IsBenchFault (line ∷ lines) 1
 other_by line [] none = (refl, none)

@@ -5,7 +5,8 @@ use Rattle.std.specs.Option.{option_map}
 use Rattle.std.specs.Char.{digit_value, is_ascii_hexdigit}
 use Rattle.byte_forms.specs.Numerals.{byte_at}
 use Rattle.bench_server.proofs.Guards.{parts}
-use Rattle.bench_server.specs.LogFile.{SpellsBytes, bytes_of}
+use Rattle.bench_server.specs.LogFile.{SpellsBytes}
+use Rattle.bench_server.specs.LogReading.{bytes_of}
 
 none_by : (b : Bool) (x : ℕ × List ℕ) (o : Option (List ℕ)) → None ≡ cond b (Some x) None → cond b o None ≡ None
 none_by true x o h = cc

@@ -11,7 +11,8 @@ use Rattle.byte_forms.proofs.PieceLaws.{bind_some, after_literal-append, after_l
 use Rattle.byte_forms.proofs.NumberLaws.{number_up_to_takes, number_up_to-is}
 use Rattle.byte_forms.proofs.SignedLaws.{number_of-below}
 use Rattle.bench_server.specs.declared.log_file.Frame.{Frame}
-use Rattle.bench_server.specs.LogFile.{LinePieces, line_text, SpellsBytes, SpellsFrame, SpellsNoFrame, bytes_of, stamp_of, key_of, payload_of, frame_from, pieces_of, frame_of}
+use Rattle.bench_server.specs.LogFile.{LinePieces, line_text, SpellsBytes, SpellsFrame, SpellsNoFrame}
+use Rattle.bench_server.specs.LogReading.{bytes_of, stamp_of, key_of, payload_of, frame_from, pieces_of, frame_of}
 use Rattle.bench_server.proofs.Guards.{parts}
 use Rattle.bench_server.proofs.ByteLaws.{bytes_of_takes, bytes_of-spelled, SpellsBytes-length}
 

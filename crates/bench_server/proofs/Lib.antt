@@ -10,8 +10,10 @@ pub mod WritingLaws
 pub mod Sequences
 pub mod NameLaws
 pub mod EndLaws
+pub mod LogOf
 pub mod ToolLaws
 pub mod OneLog
 pub mod OneBench
 pub mod OneEnd
+pub mod SomeEnd
 pub mod ExactLaws

@@ -3,7 +3,8 @@ use Rattle.std.proofs.Common.{◌≡◌, ℕ, ◌+◌, suc, List, [], ◌∷◌,
 use Rattle.std.proofs.lemmas.List.{append-nil}
 use Rattle.byte_forms.specs.Lines.{all_lines}
 use Rattle.bench_server.specs.declared.log_file.Frame.{Frame}
-use Rattle.bench_server.specs.LogFile.{SpellsFrame, IsLog, IsLogFault, frame_of}
+use Rattle.bench_server.specs.LogFile.{SpellsFrame, IsLog, IsLogFault}
+use Rattle.bench_server.specs.LogReading.{frame_of}
 use Rattle.bench_server.proofs.FrameLaws.{frame_of_takes, no_frame}
 
 -- one line and its frame more

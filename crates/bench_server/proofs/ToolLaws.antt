@@ -1,5 +1,5 @@
 -- From the end of a bus to the end of the tool.
-use Rattle.std.proofs.Common.{◌≡◌, ℕ, ◌<◌, ◌≤◌, List, [], Option, Some, None, IfSome, IsSome, refl, sym, subst, inl, inr, ◌⊎◌, arith, length, is_some, cond}
+use Rattle.std.proofs.Common.{◌≡◌, ◌∙◌, ℕ, ◌<◌, ◌≤◌, List, [], Option, Some, None, IfSome, IsSome, refl, sym, subst, inl, inr, ◌⊎◌, arith, length, is_some, cond}
 use Rattle.std.specs.Io.KnownBytes.{append_known}
 use Rattle.byte_forms.specs.Lines.{all_lines}
 use Rattle.port_io.specs.Causes.{Rose, raised}
@@ -11,7 +11,7 @@ use Rattle.bench_server.specs.BenchFile.{BusFiles, IsBench, IsBenchFault}
 use Rattle.bench_server.specs.Tool.{Files, file_limit, HasBench, HasDatabase, IsToolText, IsRefused}
 use Rattle.bench_server.specs.Writing.{AppendsPrefix}
 use Rattle.bench_server.specs.Ends.{Counts, HasText, RefusesDatabase, RefusesLogFile, FailsToRead, EndsBus}
-use Rattle.bench_server.specs.BusEnds.{stands, AreLogsOf, HasBusFiles}
+use Rattle.bench_server.specs.BusEnds.{stands, AreLogsOf, ReadsDatabase, HasFilesInTurn, HasBusFiles}
 use Rattle.bench_server.specs.FaultLine.{fault_line, Reports}
 use Rattle.bench_server.specs.ToolEnds.{EndsTool, NamesBus, ReportsTool, AreToolLogs, HasToolFiles}
 
@@ -168,3 +168,16 @@ not_astray (Some fs) bench strays h = there (named fs bench) strays h.0
 pub bus_files : (files later : Option Files) (bench : List ℕ) (bus : BusFiles) → later ≡ files → IfSome files (λ fs. HasBench fs bench bus) → HasToolFiles files bench → HasBusFiles later bus
 bus_files None later bench bus e b h = let P : Option Files → Type 0 = λ x. HasBusFiles x bus in subst P (sym e) tt
 bus_files (Some fs) later bench bus e b h = let P : Option Files → Type 0 = λ x. HasBusFiles x bus in subst P (sym e) (h.1 bus b)
+
+log_there : (fs : Files) (bus : BusFiles) (database : Database) → HasFilesInTurn fs bus → ReadsDatabase fs bus.database database → IsSome (named fs bus.log)
+log_there fs bus database h read = h.1 database (record { bytes = read.0; file = read.1; spelled = read.2 })
+
+-- the database was opened and lawful, and then the log was opened: neither is astray
+pub in_turn : (files later : Option Files) (bus : BusFiles) (database : Database) (strays strays1 strays2 : ℕ) → later ≡ files → HasBusFiles files bus →
+    IfSome files (λ fs. ReadsDatabase fs bus.database database) → strays1 ≡ strays_after files bus.database strays → strays2 ≡ strays_after later bus.log strays1 → strays2 ≡ strays
+in_turn None later bus database strays strays1 strays2 e h read first second =
+    let P : Option Files → Type 0 = λ x. strays2 ≡ strays_after x bus.log strays1 in
+    subst P e second ∙ first
+in_turn (Some fs) later bus database strays strays1 strays2 e h read first second =
+    let P : Option Files → Type 0 = λ x. strays2 ≡ strays_after x bus.log strays1 in
+    subst P e second ∙ there (named fs bus.log) strays1 (log_there fs bus database h read) ∙ first ∙ there (named fs bus.database) strays h.0

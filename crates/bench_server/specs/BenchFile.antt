@@ -1,9 +1,8 @@
 -- The bench file of this version: one line that names a CAN bus, its log and its database.
-use Rattle.std.specs.Prelude.{◌≡◌, ◌⊎◌, ℕ, ◌&&◌, Bool, true, List, [], ◌∷◌, ◌++◌, length, codes, nat_le, Option, Some, None, if◌then◌else◌}
+use Rattle.std.specs.Prelude.{◌≡◌, ◌⊎◌, ℕ, ◌&&◌, Bool, true, List, [], ◌∷◌, ◌++◌, length, codes, nat_le}
 use Rattle.std.specs.List.{list_all}
 use Rattle.byte_forms.specs.declared.class.Class.TheVariants as classes
 use Rattle.byte_forms.specs.Classes.{is_in}
-use Rattle.byte_forms.specs.Pieces.{after_literal, field_before, ◌>>=◌}
 
 -- a bus with its files, each by its name
 pub record BusFiles : Type 0 where
@@ -48,17 +47,3 @@ abbrev pub IsBenchFault : List (List ℕ) → ℕ → Type 0
 IsBenchFault [] n = n ≡ 1
 IsBenchFault (line ∷ []) n = (n ≡ 1) × SpellsNoBus line
 IsBenchFault (line ∷ other ∷ others) n = ((n ≡ 1) × SpellsNoBus line) ⊎ ((n ≡ 2) × ((bus : BusFiles) × SpellsBus line bus))
-
--- the bus of these names, where they are lawful
-abbrev pub lawful_bus : List ℕ → List ℕ → List ℕ → Option BusFiles
-lawful_bus name log database =
-    if is_bus_name name && (is_file_name log && is_file_name database)
-    then Some (record { name = name; log = log; database = database }) else None
-
--- the bus that a line spells
-unfoldable pub bus_of : List ℕ → Option BusFiles
-bus_of line = do
-  named ← after_literal (codes "bus ") line
-  name ← field_before classes.WordByte (codes " can ") named
-  log ← field_before classes.Graphic (codes " ") name.1
-  lawful_bus name.0 log.0 log.1

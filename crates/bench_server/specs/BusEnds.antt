@@ -1,12 +1,12 @@
 -- What the readers of a bus's files give.
-use Rattle.std.specs.Prelude.{◌≡◌, ℕ, List, [], ◌∷◌, ◌++◌, Option, Some, None, IfSome, IsSome, Result, Ok, Err}
+use Rattle.std.specs.Prelude.{◌≡◌, ℕ, Bool, true, List, [], ◌∷◌, ◌++◌, All, Option, Some, None, IfSome, IsSome, Result, Ok, Err}
 use Rattle.port_io.specs.Causes.{Rose}
 use Rattle.port_io.specs.Library.{named}
 use Rattle.bench_model.specs.declared.database.Database.{Database}
 use Rattle.dbc_grammar.specs.Contract.{SpellsDatabase, IsRefusedAt}
 use Rattle.bench_server.specs.declared.status.Status.{Status}
 use Rattle.bench_server.specs.declared.status.Status.TheVariants as status
-use Rattle.bench_server.specs.Tool.{Files, RefusedAt, SpellsLog}
+use Rattle.bench_server.specs.Tool.{Files, HasDatabase, RefusedAt, SpellsLog}
 use Rattle.byte_forms.specs.Lines.{all_lines}
 use Rattle.bench_server.specs.declared.log_file.Frame.{Frame}
 use Rattle.bench_server.specs.BenchFile.{BusFiles}
@@ -45,14 +45,28 @@ FailsAsOpened files name opens failed status.Ok = ⊥
 FailsAsOpened files name opens failed status.Usage = ⊥
 FailsAsOpened files name opens failed status.WriteFault = ⊥
 
--- the bytes taken of a log and then those left are the named file, where they are told
+-- a log tells the bytes taken and those left, and the one and then the other are the named file
+pub record IsPartOf (file taken left : Option (List ℕ)) : Type 0 where
+  pub front : List ℕ
+  pub rest : List ℕ
+  pub taken_is : taken ≡ Some front
+  pub left_is : left ≡ Some rest
+  pub file_is : file ≡ Some (front ++ rest)
+
+-- the log is one of that file, where the files are told
 abbrev pub IsLogOf : Option Files → List ℕ → Option (List ℕ) → Option (List ℕ) → Type 0
-IsLogOf files name taken left = IfSome files (λ fs. IfSome taken (λ t. IfSome left (λ l. named fs name ≡ Some (t ++ l))))
+IsLogOf files name taken left = IfSome files (λ fs. IsPartOf (named fs name) taken left)
 
 -- each of the logs is one of that file
 abbrev pub AreLogsOf : {S : Type 0} → Option Files → List ℕ → (S → Option (List ℕ)) → (S → Option (List ℕ)) → List S → Type 0
 AreLogsOf files name left taken [] = Unit {0}
 AreLogsOf files name left taken (log ∷ logs) = IsLogOf files name (taken log) (left log) × AreLogsOf files name left taken logs
+
+-- where the status says that all of the log was read, each of the logs has ended
+abbrev pub AreRead : {S : Type 0} → (S → Bool) → List S → Status → Type 0
+AreRead ended logs status.Ok = All (λ log. ended log ≡ true) logs
+AreRead ended logs status.WriteFault = All (λ log. ended log ≡ true) logs
+AreRead ended logs other = Unit {0}
 
 -- the status of a result
 abbrev pub status_of : Result (Unit {0}) Status → Status
@@ -70,6 +84,10 @@ stands files opens opens_now reads reads_now writes writes_now before now = reco
   now = now;
 }
 
--- the bus's files are there
+-- the bus's database is there, and where it is lawful, the log is
+abbrev pub HasFilesInTurn : Files → BusFiles → Type 0
+HasFilesInTurn files bus = IsSome (named files bus.database) × ((database : Database) → HasDatabase files bus database → IsSome (named files bus.log))
+
+-- the same of a library, where it tells its files
 abbrev pub HasBusFiles : Option Files → BusFiles → Type 0
-HasBusFiles files bus = IfSome files (λ fs. IsSome (named fs bus.database) × IsSome (named fs bus.log))
+HasBusFiles files bus = IfSome files (λ fs. HasFilesInTurn fs bus)

@@ -37,11 +37,12 @@ abbrev pub start_items : ℕ → List Reading → List Item
 start_items bus [] = []
 start_items bus (reading ∷ readings) = item.Start bus 0 0 ∷ []
 
--- the items of a bus whose log was read whole
+-- the records as items
 abbrev pub reading_items : List Reading → List Item
 reading_items [] = []
 reading_items (reading ∷ readings) = item.Reading reading ∷ reading_items readings
 
+-- the items of a bus whose log was read whole
 abbrev pub bus_items : ℕ → List Reading → List Item
 bus_items bus readings = start_items bus readings ++ (reading_items readings ++ item.End bus (length readings) ∷ [])
 

@@ -1,7 +1,9 @@
 pub mod Words
 pub mod BenchFile
+pub mod BenchReading
 pub mod BenchView
 pub mod LogFile
+pub mod LogReading
 pub mod LogView
 pub mod StatusCode
 pub mod LogResult

@@ -10,7 +10,7 @@ use Rattle.bench_server.specs.BenchFile.{BusFiles}
 use Rattle.bench_server.specs.Tool.{Files, HasBench, HasDatabase, IsToolText, IsRefused}
 use Rattle.bench_server.specs.Writing.{AppendsPrefix}
 use Rattle.bench_server.specs.Ends.{Stands, NothingWritten}
-use Rattle.bench_server.specs.BusEnds.{AreLogsOf}
+use Rattle.bench_server.specs.BusEnds.{AreLogsOf, HasFilesInTurn}
 use Rattle.bench_server.specs.FaultLine.{fault_line, Reports}
 
 -- a front of the tool's text was written, where the files are told
@@ -47,10 +47,10 @@ abbrev pub AreToolLogs : {S : Type 0} → Option Files → List ℕ → (S → O
 AreToolLogs files bench left taken logs =
     (logs ≡ []) ⊎ IfSome files (λ fs. (bus : BusFiles) × HasBench fs bench bus × AreLogsOf (Some fs) bus.log left taken logs)
 
--- the files that the words and the lawful bench file name are there
+-- the files that are to be opened are there: the bench file, where it is lawful its bus's database, and where
+-- that is lawful the log
 abbrev pub HasToolFiles : Option Files → List ℕ → Type 0
-HasToolFiles files bench = IfSome files (λ fs. IsSome (named fs bench)
-    × ((bus : BusFiles) → HasBench fs bench bus → IsSome (named fs bus.database) × IsSome (named fs bus.log)))
+HasToolFiles files bench = IfSome files (λ fs. IsSome (named fs bench) × ((bus : BusFiles) → HasBench fs bench bus → HasFilesInTurn fs bus))
 
 -- the line of a status, for words that name a bench file or for others
 abbrev pub ReportsLine : Option Files → Option (List ℕ) → Option (List ℕ) → Option (List ℕ) → ℕ → ℕ → Status → Type 0
@@ -62,7 +62,7 @@ abbrev pub AreWordLogs : {S : Type 0} → Option Files → Option (List ℕ) →
 AreWordLogs files (Some bench) left taken logs = AreToolLogs files bench left taken logs
 AreWordLogs files None left taken logs = logs ≡ []
 
--- the files that the words and the lawful bench file name are there; words of no command name none
+-- the same for the words of the command line; words of no command name no file
 abbrev pub HasWordFiles : Option Files → Option (List ℕ) → Type 0
 HasWordFiles files (Some bench) = HasToolFiles files bench
 HasWordFiles files None = Unit {0}
@@ -97,7 +97,8 @@ abbrev pub AnswersExactly : Option Files → Option (List ℕ) → Status → Ty
 AnswersExactly files None s = s ≡ status.Usage
 AnswersExactly files (Some bench) s = IfSome files (λ fs. AnswersFiles fs bench s)
 
--- how many logs a run of this status has opened: one where the log was read, none before that
+-- how many logs a run of this status hands back: the one that was opened, where it came to that; with want of
+-- memory either
 abbrev pub HasOpened : ℕ → Status → Type 0
 HasOpened n status.Ok = n ≡ 1
 HasOpened n status.WriteFault = n ≡ 1

@@ -2,7 +2,8 @@
 
 ghost use Rattle.std.specs.Prelude.{◌≡◌, MatchResult};
 ghost use Rattle.byte_forms.specs.Lines.{all_lines};
-ghost use Rattle.bench_server.specs.BenchFile.{is_bus_name, is_file_name, lawful_bus, bus_of, IsBench, IsBenchFault};
+ghost use Rattle.bench_server.specs.BenchFile.{is_bus_name, is_file_name, IsBench, IsBenchFault};
+ghost use Rattle.bench_server.specs.BenchReading.{lawful_bus, bus_of};
 ghost use Rattle.bench_server.specs.BenchView.{files_of, bus_view};
 
 use byte_forms::{Class, after_literal, field_before, is_all, next_line};
@@ -45,7 +46,7 @@ fn lawful_bus<'a>(name: &'a [u8], log: &'a [u8], database: &'a [u8]) -> Option<B
 }
 
 /// The bus that a line spells.
-#[tactic(auto, unfolding(crate::specs::BenchFile::bus_of))]
+#[tactic(auto, unfolding(crate::specs::BenchReading::bus_of))]
 fn bus_line(line: &[u8]) -> Option<BusLine<'_>>
     ensures { bus_view result ≡ bus_of line.now }
 {

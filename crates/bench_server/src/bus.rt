@@ -1,6 +1,6 @@
 //! One bus, decoded from its files to its text.
 
-ghost use Rattle.std.specs.Prelude.{◌≡◌, ◌≤◌, ◌<◌, [], ◌∷◌, length, vec_len, vec_capacity, true, IfOk, IfErr, IfSome, MatchResult, All, List, ℕ};
+ghost use Rattle.std.specs.Prelude.{◌≡◌, ◌⊎◌, ◌≤◌, ◌<◌, [], ◌∷◌, length, vec_len, vec_capacity, true, IfOk, IfErr, IfSome, MatchResult, All, List, ℕ};
 ghost use Rattle.port_io.specs.Library.{named, strays_after};
 ghost use Rattle.bench_model.specs.Limits.{IsLawfulDatabase};
 ghost use Rattle.dbc_grammar.specs.Whole.{HasWholeScalings};
@@ -8,7 +8,7 @@ ghost use Rattle.bench_server.specs.BenchFile.{is_file_name, IsLawfulBus};
 ghost use Rattle.bench_server.specs.BenchView.{files_of};
 ghost use Rattle.bench_server.specs.WholeBench.{IsWholeBench};
 ghost use Rattle.bench_server.specs.Tool.{bench_of};
-ghost use Rattle.bench_server.specs.BusEnds.{ReadsDatabase, FailsAsDatabase, ReadsLog, FailsAsOpened, AreLogsOf, status_of, stands, HasBusFiles};
+ghost use Rattle.bench_server.specs.BusEnds.{ReadsDatabase, FailsAsDatabase, ReadsLog, FailsAsOpened, AreLogsOf, AreRead, status_of, stands, HasBusFiles};
 ghost use Rattle.bench_server.specs.Ends.{HasFailed, EndsBus};
 ghost use Rattle.bench_server.specs.ToolEnds.{HasOpened};
 
@@ -17,8 +17,10 @@ use crate::bench_file::BusLine;
 use crate::decode::write_bus;
 use crate::files::{file_name, read_file, read_frames};
 use crate::log_file::Frame;
-use bench_model::{Bench, Bus, Database, Kind, List, Text};
+use crate::status::DATABASE_FILE;
+use bench_model::{Bench, Bus, Database, Kind, Text};
 use dbc_grammar::{DbcFault, read_dbc};
+use multiplex_tree::List;
 use port_io::{Library, Sink};
 use std::alloc::{AllocError, Global};
 
@@ -41,13 +43,16 @@ fn read_database<B: Library>(
     ensures files { B.files library.new ≡ B.files library.old }
     ensures strays { B.strays library.new ≡ strays_after (B.files library.old) name.now (B.strays library.old) }
 {
-    let bytes = match read_file(alloc, library, file_name(name), 1) {
+    let bytes = match read_file(alloc, library, file_name(name), DATABASE_FILE) {
         Ok(bytes) => bytes,
         Err(status) => return Err(status),
     };
     match read_dbc(alloc, &bytes) {
         Ok(database) => Ok(database),
-        Err(DbcFault::NotBuilt { line }) => Err(Status::NotBuilt { file: 1, line }),
+        Err(DbcFault::NotBuilt { line }) => Err(Status::NotBuilt {
+            file: DATABASE_FILE,
+            line,
+        }),
         Err(DbcFault::Memory) => Err(Status::Memory),
     }
 }
@@ -71,6 +76,7 @@ fn one_bus(alloc: Global, name: &[u8], database: Database) -> Result<Bench, Allo
 }
 
 /// Opens the bus's log, reads its frames, and keeps the log.
+#[tactic(auto, using(crate::proofs::LogOf::log_of))]
 fn open_log<B: Library>(
     alloc: Global,
     library: &mut B,
@@ -86,6 +92,7 @@ fn open_log<B: Library>(
         (record { before = B.open_faults library.old; now = B.open_faults library.new }) (HasFailed B.Log.read_faults logs.new.items)) }
     ensures logs { AreLogsOf (B.files library.old) name.now B.Log.left B.Log.taken logs.new.items }
     ensures opened { MatchResult result (λ _. length logs.new.items ≡ 1) (HasOpened (length logs.new.items)) }
+    ensures ended { IfOk result (λ _. All (λ log. B.Log.ended log ≡ true) logs.new.items) }
 
     ensures opens { B.open_faults library.old ≤ B.open_faults library.new }
     ensures reads { B.more_faults library.new ≡ B.more_faults library.old }
@@ -116,6 +123,8 @@ pub(crate) fn decode<B: Library, K: Sink>(
         (K.write_faults out.old) (K.write_faults out.new) (K.written out.old) (K.written out.new)) (files_of bus.now) (HasFailed B.Log.read_faults logs.new.items) (status_of result) }
     ensures logs { AreLogsOf (B.files library.old) bus.now.log.now B.Log.left B.Log.taken logs.new.items }
     ensures opened { HasOpened (length logs.new.items) (status_of result) }
+    ensures ended { AreRead B.Log.ended logs.new.items (status_of result) }
+    ensures kept { (K.written out.new ≡ K.written out.old) ⊎ (length logs.new.items ≡ 1) }
 
     ensures opens { B.open_faults library.old ≤ B.open_faults library.new }
     ensures reads { B.more_faults library.old ≤ B.more_faults library.new }

@@ -9,6 +9,7 @@ ghost use Rattle.bench_server.specs.Ends.{FailsToRead, FailsAsLog};
 
 use crate::Status;
 use crate::log_file::{Frame, read_log};
+use crate::status::LOG_FILE;
 use port_io::{Library, Source, SourceRefused, WholeRefused, read_source, read_whole};
 use std::alloc::Global;
 use std::str;
@@ -59,11 +60,15 @@ pub(crate) fn read_frames<S: Source>(alloc: Global, log: &mut S) -> Result<Vec<F
     ensures frames { IfOk result (λ frames. IfSome (S.left log.old) (λ bytes. SpellsLog bytes frames.items)) }
     ensures fault { IfErr result (FailsAsLog (S.left log.old) (record { before = S.read_faults log.old; now = S.read_faults log.new })) }
     ensures moved { (moved : List ℕ) × Moves (S.left log.old) (S.left log.new) (S.taken log.old) (S.taken log.new) moved }
+    ensures ended { IfOk result (λ _. S.ended log.new ≡ true) }
 {
     let bytes = match read_source(alloc, log, BYTE_LIMIT) {
         Ok(bytes) => bytes,
         Err(SourceRefused::Read) => return Err(Status::ReadFault { bus: Some(0) }),
-        Err(SourceRefused::Long) => return Err(Status::NotBuilt { file: 2, line: 0 }),
+        Err(SourceRefused::Long) => return Err(Status::NotBuilt {
+            file: LOG_FILE,
+            line: 0,
+        }),
         Err(SourceRefused::Memory) => return Err(Status::Memory),
     };
     read_log(alloc, &bytes)

@@ -2,7 +2,8 @@
 //! the words of its command line.
 //!
 //! It stands on `port_io` for the outside, on `byte_forms` and `dbc_grammar` for the files and on
-//! `bench_model` for the meaning of frames; the program `sigserve` hands it the real files and streams.
+//! `bench_model`, with the lists of `multiplex_tree`, for the meaning of frames; the program `sigserve` hands it
+//! the real files and streams.
 //! Reading the bench file and the log, and the text of the items, are private parts of it.
 //!
 //! Main theorem: on success `run_tool` has appended to its output exactly the tool's text, a function of the

@@ -2,11 +2,13 @@
 
 ghost use Rattle.std.specs.Prelude.{◌≡◌, IfOk, IfErr};
 ghost use Rattle.byte_forms.specs.Lines.{all_lines};
-ghost use Rattle.bench_server.specs.LogFile.{bytes_of as bytes_spelled, stamp_of as stamp_spelled, key_of as key_spelled, payload_of as payload_spelled, frame_from, pieces_of as pieces_spelled, frame_of as frame_spelled, IsLog};
+ghost use Rattle.bench_server.specs.LogFile.{IsLog};
+ghost use Rattle.bench_server.specs.LogReading.{bytes_of as bytes_spelled, stamp_of as stamp_spelled, key_of as key_spelled, payload_of as payload_spelled, frame_from, pieces_of as pieces_spelled, frame_of as frame_spelled};
 ghost use Rattle.bench_server.specs.LogResult.{RefusesLog};
 ghost use Rattle.bench_server.specs.LogView.{texts_of, pieces_view};
 
 use crate::Status;
+use crate::status::LOG_FILE;
 use bench_model::{Key, Text};
 use byte_forms::{Class, Radix, after_literal, byte_at, field_before, next_line, number_up_to};
 use std::alloc::{AllocError, Global};
@@ -33,7 +35,7 @@ struct Pieces<'a> {
 }
 
 /// The pieces of a line.
-#[tactic(auto, unfolding(crate::specs::LogFile::pieces_of))]
+#[tactic(auto, unfolding(crate::specs::LogReading::pieces_of))]
 fn pieces_of(line: &[u8]) -> Option<Pieces<'_>>
     ensures { pieces_view result ≡ pieces_spelled line.now }
 {
@@ -52,7 +54,7 @@ fn pieces_of(line: &[u8]) -> Option<Pieces<'_>>
 }
 
 /// The stamp of these digits, in microseconds since the log's epoch.
-#[tactic(auto, unfolding(crate::specs::LogFile::stamp_of))]
+#[tactic(auto, unfolding(crate::specs::LogReading::stamp_of))]
 fn stamp_of(seconds: &[u8], micros: &[u8]) -> Option<u64>
     ensures { result ≡ stamp_spelled seconds.now micros.now }
 {
@@ -65,7 +67,7 @@ fn stamp_of(seconds: &[u8], micros: &[u8]) -> Option<u64>
 }
 
 /// The identifier of these digits.
-#[tactic(auto, unfolding(crate::specs::LogFile::key_of))]
+#[tactic(auto, unfolding(crate::specs::LogReading::key_of))]
 fn key_of(id: &[u8]) -> Option<u32>
     ensures { result ≡ key_spelled id.now }
 {
@@ -93,7 +95,7 @@ fn bytes_of(alloc: Global, digits: &[u8]) -> Result<Option<Text>, AllocError>
 }
 
 /// The 8 bytes at most that hexadecimal digits spell.
-#[tactic(auto, unfolding(crate::specs::LogFile::payload_of))]
+#[tactic(auto, unfolding(crate::specs::LogReading::payload_of))]
 fn payload_of(alloc: Global, digits: &[u8]) -> Result<Option<Text>, AllocError>
     ensures { IfOk result (λ bytes. bytes ≡ payload_spelled digits.now) }
 {
@@ -104,7 +106,7 @@ fn payload_of(alloc: Global, digits: &[u8]) -> Result<Option<Text>, AllocError>
 }
 
 /// The frame of a line's pieces.
-#[tactic(auto, unfolding(crate::specs::LogFile::frame_from))]
+#[tactic(auto, unfolding(crate::specs::LogReading::frame_from))]
 fn frame_from(alloc: Global, pieces: &Pieces<'_>) -> Result<Option<Frame>, AllocError>
     ensures { IfOk result (λ frame. frame ≡ frame_from (texts_of pieces.now)) }
 {
@@ -128,7 +130,7 @@ fn frame_from(alloc: Global, pieces: &Pieces<'_>) -> Result<Option<Frame>, Alloc
 }
 
 /// The frame that a line spells.
-#[tactic(auto, unfolding(crate::specs::LogFile::frame_of))]
+#[tactic(auto, unfolding(crate::specs::LogReading::frame_of))]
 fn frame_line(alloc: Global, line: &[u8]) -> Result<Option<Frame>, AllocError>
     ensures { IfOk result (λ frame. frame ≡ frame_spelled line.now) }
 {
@@ -151,7 +153,7 @@ pub(crate) fn read_log(alloc: Global, bytes: &[u8]) -> Result<Vec<Frame>, Status
     while let Some((line, after)) = next_line(rest) {
         let Some(frame) = frame_line(alloc, line)? else {
             return Err(Status::NotBuilt {
-                file: 2,
+                file: LOG_FILE,
                 line: frames.len() as u64 + 1,
             });
         };

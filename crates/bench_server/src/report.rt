@@ -8,6 +8,10 @@ use crate::Status;
 use itoa::Buffer;
 use port_io::{Sink, write_piece};
 
+/// The line of a usage that is not taken: the words of every command of the finished program.
+const USAGE: &[u8] =
+    b"usage: sigserve decode BENCH | check FILE | mill N | serve BENCH DESK PLACE..\n";
+
 /// Appends pieces, as far as the sink takes them.
 fn write_pieces<E: Sink>(err: &mut E, pieces: &[&[u8]])
     ensures { Reports (E.written err.old) (E.written err.new) (E.write_faults err.old) (E.write_faults err.new) (joined pieces.now) }
@@ -25,10 +29,7 @@ pub(crate) fn report<E: Sink>(err: &mut E, name: &[u8], status: &Status)
 {
     match status {
         Status::Ok => write_pieces(err, &[]),
-        Status::Usage => write_pieces(
-            err,
-            &[b"usage: sigserve decode BENCH | check FILE | mill N | serve BENCH DESK PLACE..\n"],
-        ),
+        Status::Usage => write_pieces(err, &[USAGE]),
         Status::OpenFault => write_pieces(err, &[b"open\n"]),
         Status::ReadFault { bus: None } => write_pieces(err, &[b"read\n"]),
         Status::ReadFault { bus: Some(_) } => write_pieces(err, &[b"read ", name, b"\n"]),

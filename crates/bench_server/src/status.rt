@@ -6,6 +6,13 @@ ghost use Rattle.bench_server.specs.StatusCode.{code_of};
 
 use std::alloc::{AllocError, AllocFailed};
 
+/// The number of the bench file in a `NotBuilt`.
+pub(crate) const BENCH_FILE: u32 = 0;
+/// The number of the database.
+pub(crate) const DATABASE_FILE: u32 = 1;
+/// The number of the log.
+pub(crate) const LOG_FILE: u32 = 2;
+
 /// How a call of the program ended.
 #[derive(Clone, Copy, Debug, PartialEq, Eq)]
 pub enum Status {

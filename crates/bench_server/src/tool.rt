@@ -1,9 +1,9 @@
 //! The top call: what the program does for the words of its command line.
 
-ghost use Rattle.std.specs.Prelude.{◌≡◌, ◌≤◌, [], Some, length, vec_len};
+ghost use Rattle.std.specs.Prelude.{◌≡◌, ◌⊎◌, ◌≤◌, [], Some, length, vec_len};
 ghost use Rattle.bench_server.specs.Words.{bench_word};
 ghost use Rattle.bench_server.specs.WordView.{words_of};
-ghost use Rattle.bench_server.specs.BusEnds.{stands, status_of};
+ghost use Rattle.bench_server.specs.BusEnds.{AreRead, stands, status_of};
 ghost use Rattle.bench_server.specs.ToolEnds.{EndsTool, ReportsTool, AreToolLogs, HasToolFiles, ReportsLine, AreWordLogs, HasWordFiles, AnswersExactly, HasOpened};
 ghost use Rattle.bench_server.specs.Ends.{HasFailed};
 ghost use Rattle.bench_server.specs.FaultLine.{fault_line, Reports};
@@ -13,8 +13,9 @@ use crate::bench_file::bench_bus;
 use crate::bus::decode;
 use crate::files::read_file;
 use crate::report::report;
+use crate::status::BENCH_FILE;
 use crate::words::bench_word;
-use bench_model::List;
+use multiplex_tree::List;
 use port_io::{Library, Sink};
 use std::alloc::Global;
 
@@ -60,6 +61,8 @@ fn run<B: Library, K: Sink, E: Sink>(
     ensures line { ReportsTool (B.files library.old) bench.now (E.written err.old) (E.written err.new) (E.write_faults err.old) (E.write_faults err.new) result }
     ensures logs { AreToolLogs (B.files library.old) bench.now B.Log.left B.Log.taken logs.new.items }
     ensures opened { HasOpened (length logs.new.items) result }
+    ensures ended { AreRead B.Log.ended logs.new.items result }
+    ensures kept { (K.written out.new ≡ K.written out.old) ⊎ (length logs.new.items ≡ 1) }
     ensures opens { B.open_faults library.old ≤ B.open_faults library.new }
     ensures reads { B.more_faults library.old ≤ B.more_faults library.new }
     ensures writes { K.write_faults out.old ≤ K.write_faults out.new }
@@ -69,13 +72,19 @@ fn run<B: Library, K: Sink, E: Sink>(
     let Ok(()) = logs.reserve(1) else {
         return stop(err, Status::Memory);
     };
-    let bytes = match read_file(alloc, library, bench, 0) {
+    let bytes = match read_file(alloc, library, bench, BENCH_FILE) {
         Ok(bytes) => bytes,
         Err(status) => return stop(err, status),
     };
     let bus = match bench_bus(&bytes) {
         Ok(bus) => bus,
-        Err(line) => return stop(err, Status::NotBuilt { file: 0, line }),
+        Err(line) => return stop(
+            err,
+            Status::NotBuilt {
+                file: BENCH_FILE,
+                line,
+            },
+        ),
     };
     let status = status_of(decode(alloc, &bus, library, out, logs));
     report(err, bus.name, &status);
@@ -98,6 +107,8 @@ fn answer<B: Library, K: Sink, E: Sink>(
     ensures line { ReportsLine (B.files library.old) (bench_word (words_of words.now)) (E.written err.old) (E.written err.new) (E.write_faults err.old) (E.write_faults err.new) result }
     ensures logs { AreWordLogs (B.files library.old) (bench_word (words_of words.now)) B.Log.left B.Log.taken logs.new.items }
     ensures opened { HasOpened (length logs.new.items) result }
+    ensures ended { AreRead B.Log.ended logs.new.items result }
+    ensures kept { (K.written out.new ≡ K.written out.old) ⊎ (length logs.new.items ≡ 1) }
     ensures opens { B.open_faults library.old ≤ B.open_faults library.new }
     ensures reads { B.more_faults library.old ≤ B.more_faults library.new }
     ensures writes { K.write_faults out.old ≤ K.write_faults out.new }
@@ -129,9 +140,12 @@ pub fn run_tool<B: Library, K: Sink, E: Sink>(
     // The status's line was appended to `err`, or a front of it where that sink's count of faults rose.
     ensures line { ReportsLine (B.files library.old) (bench_word (words_of words.now)) (E.written err.old) (E.written err.new) (E.write_faults err.old) (E.write_faults err.new) result.status }
 
-    // The logs that were opened stand as they were left, and no file was opened that nobody named.
+    // The logs that were opened stand as they were left: read to the end where all was read, and handed back
+    // whenever something was written. No file was opened that nobody named, or whose turn did not come.
     ensures logs { AreWordLogs (B.files library.old) (bench_word (words_of words.now)) B.Log.left B.Log.taken result.logs }
     ensures opened { HasOpened (length result.logs) result.status }
+    ensures ended { AreRead B.Log.ended result.logs result.status }
+    ensures kept { (K.written out.new ≡ K.written out.old) ⊎ (length result.logs ≡ 1) }
     ensures opens { B.open_faults library.old ≤ B.open_faults library.new }
     ensures reads { B.more_faults library.old ≤ B.more_faults library.new }
     ensures writes { K.write_faults out.old ≤ K.write_faults out.new }

@@ -1,6 +1,6 @@
 use Rattle.std.proofs.Common.{◌≡◌, ◌++◌, length}
 use Rattle.std.specs.Option.{option_map}
-use Rattle.bench_server.specs.LogFile.{bytes_of}
+use Rattle.bench_server.specs.LogReading.{bytes_of}
 use Rattle.bench_server.proofs.log_file.bytes_of.Given as goal
 
 -- the bytes so far, and those of the digits that are left
