@@ -124,6 +124,42 @@ static UNDER_A_READER: [Step; 12] = [
     Step::J { lane: 0 },
 ];
 
+/// Lane 1 takes hold of version 0, version 1 is published, and the loader finds the pins of both lanes: lane 0's
+/// is 0, lane 1's is not.
+static PUBLISH_BESIDE_A_READER: [Step; 8] = [
+    Step::L1 { lane: 1 },
+    Step::L2 { lane: 1 },
+    Step::L3 { lane: 1 },
+    Step::W1 {
+        region: 1,
+        place: 0,
+        word: 8,
+    },
+    Step::W2 {
+        region: 1,
+        length: 1,
+    },
+    Step::W3,
+    Step::W4 { region: 0, lane: 0 },
+    Step::W4 { region: 0, lane: 1 },
+];
+
+/// Lane 1 lets go, and the loader finds its pin 0.
+static LET_GO_TOO: [Step; 2] = [Step::L5 { lane: 1 }, Step::W4 { region: 0, lane: 1 }];
+
+/// One word of a region is written.
+static ONE_WORD: [Step; 1] = [Step::W1 {
+    region: 1,
+    place: 0,
+    word: 8,
+}];
+
+/// A publication of more words than were written.
+static TOO_LONG: [Step; 1] = [Step::W2 {
+    region: 1,
+    length: 2,
+}];
+
 /// Takes steps, each of which has to be allowed.
 fn take_all(rt: &impl Abort, state: &mut State, steps: &[Step]) -> Result<(), Fail> {
     for step in steps {
@@ -150,10 +186,16 @@ fn published_under_a_reader(rt: &(impl Abort + AllocGlobal)) -> Result<State, Fa
     Ok(state)
 }
 
-/// After these steps the loader may write region 0 again.
-fn assert_written_after(rt: &(impl Abort + AllocGlobal), steps: &[Step]) -> Result<(), Fail> {
+/// After these steps the lane's pin is this, and the loader may write region 0 again.
+fn assert_written_after(
+    rt: &(impl Abort + AllocGlobal),
+    steps: &[Step],
+    pin: u64,
+) -> Result<(), Fail> {
     let mut state = published_under_a_reader(rt)?;
+    assert_eq!(rt; state.retired.items(), [Some(0), None].as_slice());
     take_all(rt, &mut state, steps)?;
+    assert_eq!(rt; state.pins.items(), [pin].as_slice());
     take_all(rt, &mut state, &WRITE_AGAIN)?;
     assert_eq!(rt; state.epoch, 1);
     assert_eq!(rt; state.version, 1);
@@ -166,8 +208,25 @@ fn assert_crosses<T: Send + Sync>(_value: &T) {}
 
 #[test]
 fn a_region_is_written_again_once_its_reader_is_past_it(rt: HostRuntime) -> Result<(), Fail> {
-    assert_written_after(&rt, &LET_GO)?;
-    assert_written_after(&rt, &ANNOUNCE_AGAIN)
+    assert_written_after(&rt, &LET_GO, 0)?;
+    assert_written_after(&rt, &ANNOUNCE_AGAIN, 2)
+}
+
+#[test]
+fn a_region_waits_for_every_lane(rt: HostRuntime) -> Result<(), Fail> {
+    let mut state = State::first(rt.alloc(), 2, 2, &[5])?;
+    take_all(&rt, &mut state, &PUBLISH_BESIDE_A_READER)?;
+    refuse_all(&rt, &state, &WRITE_AGAIN);
+    take_all(&rt, &mut state, &LET_GO_TOO)?;
+    take_all(&rt, &mut state, &WRITE_AGAIN)
+}
+
+#[test]
+fn no_more_is_published_than_was_written(rt: HostRuntime) -> Result<(), Fail> {
+    let mut state = State::first(rt.alloc(), 2, 1, &[5])?;
+    take_all(&rt, &mut state, &ONE_WORD)?;
+    refuse_all(&rt, &state, &TOO_LONG);
+    Ok(())
 }
 
 #[test]
