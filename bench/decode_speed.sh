@@ -5,12 +5,7 @@
 # of the system for it) counts, since elapsed time says little on a busy machine; the least of that is shown too.
 #
 #   bench/decode_speed.sh [SEED]
-set -euo pipefail
-top="$(cd "$(dirname "$0")/.." && pwd)"
-program="$top/crates/sigserve/out/sigserve"
-[ -x "$program" ] || { echo "no built program: run ./demo first" >&2; exit 2; }
-work="$(mktemp -d)"
-trap 'rm -rf "$work"' EXIT
+. "$(dirname "$0")/program.sh"
 cd "$work"
 
 python3 - "$program" "${1:-1}" <<'PYTHON'

@@ -2,12 +2,7 @@
 # Refuses the proved program memory: each of its allocations fails in one run, the first, the second and so on.
 # A run must end with status 0 (Ok) and the whole text, or with 11 (Memory) and a front of it.
 # Over the stored run of crates/sigserve. Wants cc, for a malloc and a realloc that count and refuse.
-set -euo pipefail
-top="$(cd "$(dirname "$0")/.." && pwd)"
-program="$top/crates/sigserve/out/sigserve"
-[ -x "$program" ] || { echo "no built program: run ./demo first" >&2; exit 2; }
-work="$(mktemp -d)"
-trap 'rm -rf "$work"' EXIT
+. "$(dirname "$0")/program.sh"
 
 cat >"$work/refuse.c" <<'C'
 #define _GNU_SOURCE
