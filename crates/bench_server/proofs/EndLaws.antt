@@ -7,9 +7,9 @@ use Rattle.bench_server.specs.declared.status.Status.TheVariants as status
 use Rattle.bench_server.specs.declared.log_file.Frame.{Frame}
 use Rattle.bench_server.specs.BenchFile.{BusFiles}
 use Rattle.bench_server.specs.Decoded.{bus_text}
-use Rattle.bench_server.specs.Tool.{Files, HasDatabase, bench_of}
+use Rattle.bench_server.specs.Tool.{Files, HasDatabase, HasText, bench_of}
 use Rattle.bench_server.specs.Writing.{AppendsPrefix, WritesText}
-use Rattle.bench_server.specs.Ends.{HasText, EndsBus}
+use Rattle.bench_server.specs.Ends.{EndsBus}
 use Rattle.bench_server.specs.BusEnds.{ReadsDatabase, ReadsLog, status_of, stands}
 
 -- the files of a bus give its text

@@ -12,7 +12,7 @@ use Rattle.bench_server.specs.BenchReading.{bus_of}
 use Rattle.bench_server.specs.LogFile.{SpellsFrame, SpellsNoFrame, IsLog, IsLogFault}
 use Rattle.bench_server.specs.LogReading.{frame_of}
 use Rattle.bench_server.specs.Decoded.{bus_text}
-use Rattle.bench_server.specs.Tool.{Files, file_limit, RefusedAt, SpellsBench, SpellsLog, HasBench, HasDatabase, bench_of, IsToolText, IsLogRefused, IsRefused}
+use Rattle.bench_server.specs.Tool.{Files, file_limit, RefusedAt, SpellsBench, SpellsLog, HasBench, HasDatabase, HasText, bench_of, IsToolText, IsDatabaseRefused, IsLogRefused, IsRefused}
 use Rattle.bench_server.specs.BusEnds.{HasFilesInTurn}
 use Rattle.bench_server.proofs.BusLaws.{bus_of_takes, spells_none}
 use Rattle.bench_server.proofs.FrameLaws.{frame_of_takes, no_frame}
@@ -99,29 +99,24 @@ HasEnd files bench = ((text : List ℕ) × IsToolText files bench text) ⊎ ((fi
 
 log_end : (files : Files) (bench : List ℕ) (bus : BusFiles) (database : Database) (bytes : List ℕ) → HasBench files bench bus → HasDatabase files bus database → named files bus.log ≡ Some bytes →
     SpellsOr (SpellsLog bytes) (λ n. RefusedAt bytes n (IsLogFault (all_lines bytes))) → HasEnd files bench
-log_end files bench bus database bytes b d file (inl log) = inl (
-  bus_text (bench_of bus.name database) 0 bus.name log.0,
-  record {
-    bus = bus;
-    database = database;
-    frames = log.0;
-    has_bench = b;
-    has_database = d;
-    has_log = record { bytes = bytes; file = file; spelled = log.1 };
-    text_is = refl;
-  },
-)
-log_end files bench bus database bytes b d file (inr fault) =
-    let refused : IsLogRefused files bench fault.0 = record {
-      bus = bus;
+log_end files bench bus database bytes b d file (inl log) =
+    let text : HasText files bus (bus_text (bench_of bus.name database) 0 bus.name log.0) = record {
       database = database;
-      has_bench = b;
+      frames = log.0;
+      has_database = d;
+      has_log = record { bytes = bytes; file = file; spelled = log.1 };
+      text_is = refl;
+    } in
+    inl (_, record { bus = bus; has_bench = b; has_text = text })
+log_end files bench bus database bytes b d file (inr fault) =
+    let refused : IsLogRefused files bus fault.0 = record {
+      database = database;
       has_database = d;
       bytes = bytes;
       file = file;
       refused = fault.1;
     } in
-    inr (2, fault.0, inr (inr (refl, refused)))
+    inr (2, fault.0, inr (record { bus = bus; has_bench = b; refused = inr (refl, refused) }))
 
 log_there : (files : Files) (bench : List ℕ) (bus : BusFiles) (database : Database) (found : Option (List ℕ)) → HasBench files bench bus → HasDatabase files bus database →
     named files bus.log ≡ found → IsSome found → HasEnd files bench
@@ -135,7 +130,8 @@ database_end files bench bus bytes b h file (inl database) =
     let d : HasDatabase files bus database.0 = record { bytes = bytes; file = file; spelled = database.1 } in
     log_there files bench bus database.0 (named files bus.log) b d refl (h.1 database.0 d)
 database_end files bench bus bytes b h file (inr fault) =
-    inr (1, fault.0, inr (inl (refl, record { bus = bus; has_bench = b; bytes = bytes; file = file; refused = fault.1 })))
+    let refused : IsDatabaseRefused files bus fault.0 = record { bytes = bytes; file = file; refused = fault.1 } in
+    inr (1, fault.0, inr (record { bus = bus; has_bench = b; refused = inl (refl, refused) }))
 
 database_there : (files : Files) (bench : List ℕ) (bus : BusFiles) (found : Option (List ℕ)) → HasBench files bench bus → HasFilesInTurn files bus → named files bus.database ≡ found → IsSome found →
     HasEnd files bench

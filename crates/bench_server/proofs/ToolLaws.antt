@@ -8,9 +8,9 @@ use Rattle.bench_model.specs.declared.database.Database.{Database}
 use Rattle.bench_server.specs.declared.status.Status.{Status}
 use Rattle.bench_server.specs.declared.status.Status.TheVariants as status
 use Rattle.bench_server.specs.BenchFile.{BusFiles, IsBench, IsBenchFault}
-use Rattle.bench_server.specs.Tool.{Files, file_limit, HasBench, HasDatabase, IsToolText, IsRefused}
+use Rattle.bench_server.specs.Tool.{Files, file_limit, HasBench, HasDatabase, HasText, IsToolText, IsFileRefused, IsRefused}
 use Rattle.bench_server.specs.Writing.{AppendsPrefix}
-use Rattle.bench_server.specs.Ends.{Counts, HasText, RefusesDatabase, RefusesLogFile, FailsToRead, EndsBus}
+use Rattle.bench_server.specs.Ends.{Counts, FailsToRead, EndsBus}
 use Rattle.bench_server.specs.BusEnds.{stands, AreLogsOf, ReadsDatabase, HasFilesInTurn, HasBusFiles}
 use Rattle.bench_server.specs.FaultLine.{fault_line, Reports}
 use Rattle.bench_server.specs.ToolEnds.{EndsTool, NamesBus, ReportsTool, AreToolLogs, HasToolFiles}
@@ -50,15 +50,7 @@ bench_refused None bench bytes line h short fault = tt
 bench_refused (Some fs) bench bytes line h short fault = inl (refl, record { bytes = bytes; file = h; refused = inr (short, fault) })
 
 tool_text : (fs : Files) (bench : List ℕ) (bus : BusFiles) (text : List ℕ) → HasBench fs bench bus → HasText fs bus text → IsToolText fs bench text
-tool_text fs bench bus text b t = record {
-  bus = bus;
-  database = t.database;
-  frames = t.frames;
-  has_bench = b;
-  has_database = t.has_database;
-  has_log = t.has_log;
-  text_is = t.text_is;
-}
+tool_text fs bench bus text b t = record { bus = bus; has_bench = b; has_text = t }
 
 -- a text of the bus is one of the tool
 lift_text : (files : Option Files) (bench : List ℕ) (bus : BusFiles) (P : List ℕ → Type 0) → IfSome files (λ fs. HasBench fs bench bus) →
@@ -66,26 +58,10 @@ lift_text : (files : Option Files) (bench : List ℕ) (bus : BusFiles) (P : List
 lift_text None bench bus P b h = tt
 lift_text (Some fs) bench bus P b h = (h.0, tool_text fs bench bus h.0 b h.1, h.2)
 
-refused_by : (fs : Files) (bench : List ℕ) (bus : BusFiles) (file line : ℕ) → HasBench fs bench bus →
-    ((file ≡ 1) × RefusesDatabase fs bus line) ⊎ ((file ≡ 2) × RefusesLogFile fs bus line) → IsRefused fs bench file line
-refused_by fs bench bus file line b (inl d) = inr (inl (d.0, record { bus = bus; has_bench = b; bytes = d.1.bytes; file = d.1.file; refused = d.1.refused }))
-refused_by fs bench bus file line b (inr l) = inr (inr (
-  l.0,
-  record {
-    bus = bus;
-    database = l.1.database;
-    has_bench = b;
-    has_database = l.1.has_database;
-    bytes = l.1.bytes;
-    file = l.1.file;
-    refused = l.1.refused;
-  },
-))
-
 lift_refused : (files : Option Files) (bench : List ℕ) (bus : BusFiles) (file line : ℕ) → IfSome files (λ fs. HasBench fs bench bus) →
-    IfSome files (λ fs. ((file ≡ 1) × RefusesDatabase fs bus line) ⊎ ((file ≡ 2) × RefusesLogFile fs bus line)) → IfSome files (λ fs. IsRefused fs bench file line)
+    IfSome files (λ fs. IsFileRefused fs bus file line) → IfSome files (λ fs. IsRefused fs bench file line)
 lift_refused None bench bus file line b h = tt
-lift_refused (Some fs) bench bus file line b h = refused_by fs bench bus file line b h
+lift_refused (Some fs) bench bus file line b h = inr (record { bus = bus; has_bench = b; refused = h })
 
 lift_part : (files : Option Files) (bench : List ℕ) (bus : BusFiles) (before now : Option (List ℕ)) → IfSome files (λ fs. HasBench fs bench bus) →
     (now ≡ before) ⊎ IfSome files (λ fs. (text : List ℕ) × HasText fs bus text × AppendsPrefix before now text) →

@@ -5,14 +5,11 @@ use Rattle.byte_forms.specs.Lines.{all_lines}
 use Rattle.port_io.specs.Causes.{Rose}
 use Rattle.port_io.specs.Library.{named}
 use Rattle.bench_model.specs.declared.database.Database.{Database}
-use Rattle.dbc_grammar.specs.Contract.{IsRefusedAt}
 use Rattle.bench_server.specs.declared.status.Status.{Status}
 use Rattle.bench_server.specs.declared.status.Status.TheVariants as status
-use Rattle.bench_server.specs.declared.log_file.Frame.{Frame}
 use Rattle.bench_server.specs.BenchFile.{BusFiles}
 use Rattle.bench_server.specs.LogFile.{IsLogFault}
-use Rattle.bench_server.specs.Decoded.{bus_text}
-use Rattle.bench_server.specs.Tool.{Files, file_limit, RefusedAt, HasDatabase, HasLog, bench_of}
+use Rattle.bench_server.specs.Tool.{Files, file_limit, RefusedAt, HasDatabase, HasText, IsFileRefused}
 use Rattle.bench_server.specs.Writing.{AppendsPrefix}
 
 -- counts of faults before and after a call
@@ -42,28 +39,6 @@ FailsAsLog left reads status.OpenFault = ⊥
 FailsAsLog left reads status.Ok = ⊥
 FailsAsLog left reads status.Usage = ⊥
 FailsAsLog left reads status.WriteFault = ⊥
-
--- the bus's database and log are there and give this text
-pub record HasText (files : Files) (bus : BusFiles) (text : List ℕ) : Type 0 where
-  pub database : Database
-  pub frames : List Frame
-  pub has_database : HasDatabase files bus database
-  pub has_log : HasLog files bus frames
-  pub text_is : text ≡ bus_text (bench_of bus.name database) 0 bus.name frames
-
--- the bus's database is refused at this line
-pub record RefusesDatabase (files : Files) (bus : BusFiles) (line : ℕ) : Type 0 where
-  pub bytes : List ℕ
-  pub file : named files bus.database ≡ Some bytes
-  pub refused : IsRefusedAt bytes line
-
--- its database is lawful, and its log is refused at this line
-pub record RefusesLogFile (files : Files) (bus : BusFiles) (line : ℕ) : Type 0 where
-  pub database : Database
-  pub has_database : HasDatabase files bus database
-  pub bytes : List ℕ
-  pub file : named files bus.log ≡ Some bytes
-  pub refused : RefusedAt bytes line (IsLogFault (all_lines bytes))
 
 -- what stands before and after a decode of a bus
 pub record Stands : Type 0 where
@@ -97,5 +72,4 @@ EndsBus s bus failed (status.ReadFault (Some n)) =
     (n ≡ 0) × failed × NothingWritten s × IfSome s.files (λ fs. (database : Database) × HasDatabase fs bus database)
 EndsBus s bus failed status.WriteFault = Rose s.writes.before s.writes.now × IfSome s.files (λ fs. (text : List ℕ) × HasText fs bus text × AppendsPrefix s.before s.now text)
 EndsBus s bus failed status.Memory = WrittenInPart s bus
-EndsBus s bus failed (status.NotBuilt file line) =
-    IfSome s.files (λ fs. ((file ≡ 1) × RefusesDatabase fs bus line) ⊎ ((file ≡ 2) × RefusesLogFile fs bus line)) × NothingWritten s
+EndsBus s bus failed (status.NotBuilt file line) = IfSome s.files (λ fs. IsFileRefused fs bus file line) × NothingWritten s

@@ -49,16 +49,20 @@ pub record HasLog (files : Files) (bus : BusFiles) (frames : List Frame) : Type 
   pub file : named files bus.log ≡ Some bytes
   pub spelled : SpellsLog bytes frames
 
--- the text of `decode` of this bench file: the bus's start where there is a record, its decoded list and
--- its end
-pub record IsToolText (files : Files) (bench text : List ℕ) : Type 0 where
-  pub bus : BusFiles
+-- the bus's database and log are there, and the text is theirs: a start where there is a record, the decoded list
+-- and an end
+pub record HasText (files : Files) (bus : BusFiles) (text : List ℕ) : Type 0 where
   pub database : Database
   pub frames : List Frame
-  pub has_bench : HasBench files bench bus
   pub has_database : HasDatabase files bus database
   pub has_log : HasLog files bus frames
   pub text_is : text ≡ bus_text (bench_of bus.name database) 0 bus.name frames
+
+-- the text of `decode` of this bench file: that of the bus that it names
+pub record IsToolText (files : Files) (bench text : List ℕ) : Type 0 where
+  pub bus : BusFiles
+  pub has_bench : HasBench files bench bus
+  pub has_text : HasText files bus text
 
 -- a file is refused at line 0 for its length, and else at its first faulty line
 abbrev pub RefusedAt : List ℕ → ℕ → (ℕ → Type 0) → Type 0
@@ -70,25 +74,30 @@ pub record IsBenchRefused (files : Files) (bench : List ℕ) (line : ℕ) : Type
   pub file : named files bench ≡ Some bytes
   pub refused : RefusedAt bytes line (IsBenchFault (all_lines bytes))
 
--- the bench file is lawful, and its database is refused at this line
-pub record IsDatabaseRefused (files : Files) (bench : List ℕ) (line : ℕ) : Type 0 where
-  pub bus : BusFiles
-  pub has_bench : HasBench files bench bus
+-- the bus's database is refused at this line
+pub record IsDatabaseRefused (files : Files) (bus : BusFiles) (line : ℕ) : Type 0 where
   pub bytes : List ℕ
   pub file : named files bus.database ≡ Some bytes
   pub refused : IsRefusedAt bytes line
 
--- the bench file and the database are lawful, and the log is refused at this line
-pub record IsLogRefused (files : Files) (bench : List ℕ) (line : ℕ) : Type 0 where
-  pub bus : BusFiles
+-- its database is lawful, and its log is refused at this line
+pub record IsLogRefused (files : Files) (bus : BusFiles) (line : ℕ) : Type 0 where
   pub database : Database
-  pub has_bench : HasBench files bench bus
   pub has_database : HasDatabase files bus database
   pub bytes : List ℕ
   pub file : named files bus.log ≡ Some bytes
   pub refused : RefusedAt bytes line (IsLogFault (all_lines bytes))
 
+-- a file of the bus is refused: its database (1) or its log (2)
+abbrev pub IsFileRefused : Files → BusFiles → ℕ → ℕ → Type 0
+IsFileRefused files bus file line = ((file ≡ 1) × IsDatabaseRefused files bus line) ⊎ ((file ≡ 2) × IsLogRefused files bus line)
+
+-- the bench file is lawful, and a file of the bus that it names is refused
+pub record IsBusRefused (files : Files) (bench : List ℕ) (file line : ℕ) : Type 0 where
+  pub bus : BusFiles
+  pub has_bench : HasBench files bench bus
+  pub refused : IsFileRefused files bus file line
+
 -- the first file that is refused, in the order bench file (0), database (1), log (2), and the line of it
 abbrev pub IsRefused : Files → List ℕ → ℕ → ℕ → Type 0
-IsRefused files bench file line =
-    ((file ≡ 0) × IsBenchRefused files bench line) ⊎ ((file ≡ 1) × IsDatabaseRefused files bench line) ⊎ ((file ≡ 2) × IsLogRefused files bench line)
+IsRefused files bench file line = ((file ≡ 0) × IsBenchRefused files bench line) ⊎ IsBusRefused files bench file line
