@@ -20,7 +20,7 @@ pub record IsScaling (scale : Scale) : Type 0 where
   pub offset : IsNumerator scale.offset
   pub k : scale.k ≤ 30
 
--- a bound that is wide enough for every raw value: a number of 64 bits, signed or unsigned
+-- a bound that is wide enough for every raw value, which is a number of 64 bits, signed (from -2^63 on) or not
 pub record IsRaw (raw : ℤ) : Type 0 where
   pub above : neg_ℤ (pos (2 ^ 64)) ≤ℤ raw
   pub below : raw <ℤ pos (2 ^ 64)

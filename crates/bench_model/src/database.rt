@@ -35,19 +35,19 @@ pub struct Label {
 /// One entry of a LIN signal encoding. The first entry that covers a raw value applies.
 #[derive(Debug, Drop)]
 pub enum Entry {
-    /// Covers one raw value, and may have a text for it.
+    /// Covers one raw value, and may have a text for it (`logical_value` of a LIN description file).
     Logical {
         raw: u64,
         text: Option<Text>,
     },
-    /// Covers the raw values from `low` to `high`, both included.
+    /// Covers the raw values from `low` to `high`, both included (`physical_range`).
     Physical {
         low: u64,
         high: u64,
         scale: Scale,
         unit: Text,
     },
-    /// Covers every raw value, which stands for itself.
+    /// Covers every raw value, which stands for itself (`bcd_value` and `ascii_value`).
     Plain,
 }
 
@@ -77,7 +77,7 @@ pub struct Signal {
     pub order: Order,
     /// Whether the raw value is a two's complement number.
     pub signed: bool,
-    /// Whether the bits are a floating point number, which is never decoded.
+    /// Whether the bits are a floating point number. Decoding does not ask this yet.
     pub float: bool,
     pub coding: Coding,
 }
@@ -106,7 +106,7 @@ pub struct Bus {
     pub database: Database,
 }
 
-/// All buses of the bench. A bus is named by its place from 0.
+/// All buses of the bench. A bus is numbered by its place, from 0.
 #[derive(Debug, Drop)]
 pub struct Bench {
     pub buses: List<Bus>,

@@ -1,11 +1,12 @@
 //! The model of a bench: databases of messages and signals, the plain decoding of a frame under them, and
 //! the records and items that decoding gives.
 //!
-//! The readers of database files make its values, and every faster decoder is held against it: it takes
-//! `List` from `multiplex_tree`, and the server's crates stand on it.
+//! `dbc_grammar` makes its values, and faster decoders are to be proved equal to `Bench::plain`: it takes `List`
+//! from `multiplex_tree`, and `bench_server` stands on it.
 //!
-//! Main theorem: `Bench::plain` gives exactly the meaning of a frame's bytes, the first matching message's
-//! signals in file order, each with its raw value bit by bit, its exact value, its unit and its label.
+//! Main theorem: unless memory runs out, `Bench::plain` gives exactly the meaning of a frame's bytes: the message
+//! that matches, and its signals in file order, each with its raw value bit by bit, its exact value, its unit and
+//! its label.
 #![tactic(auto)]
 
 mod database;

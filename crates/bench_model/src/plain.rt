@@ -15,7 +15,8 @@ use crate::{
 use multiplex_tree::List;
 use std::alloc::{AllocError, Global};
 
-/// The parameter group number of a 29-bit identifier (SAE J1939-21).
+/// The parameter group number of a 29-bit identifier (SAE J1939-21): with a PDU format below 240 the PDU specific byte
+/// is an address and counts as 0.
 fn group_of(id: u32) -> u32
     ensures { result ≡ group id }
 {

@@ -6,7 +6,8 @@ ghost use Rattle.bench_model.specs.Limits.{IsLawfulSignal, IsRaw};
 
 use crate::{Order, Signal};
 
-/// The greatest place that a signal may start at: the last bit of a message of 1,785 bytes.
+/// The greatest place that a signal may start at: the last bit of a message of 1,785 bytes, 255 packets of 7 bytes
+/// (SAE J1939-21).
 const LAST_START: u32 = 14_279;
 
 /// Where a signal's most significant bit stands.

@@ -70,7 +70,8 @@ pub enum Body {
     },
     /// A line of another form.
     Bad,
-    /// A message of several packets that came whole.
+    /// A message of several packets that came whole (the transport protocol of SAE J1939-21): its parameter group
+    /// number, its source address and its destination address.
     Transport {
         pgn: u32,
         sa: u8,
@@ -79,7 +80,7 @@ pub enum Body {
         name: Option<Text>,
         signals: List<SignalValue>,
     },
-    /// A message of several packets that was cut.
+    /// A message of several packets that was broken off, named alike, with the cause.
     Cut {
         pgn: u32,
         sa: u8,

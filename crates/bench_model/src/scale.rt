@@ -9,15 +9,20 @@ use std::alloc::{AllocError, Global};
 /// A scaling: a raw value becomes `(raw * factor + offset) / 10^k`.
 #[derive(Clone, Copy, Debug, PartialEq, Eq)]
 pub struct Scale {
+    /// The numerator of the factor.
     pub factor: i128,
+    /// The numerator of the offset.
     pub offset: i128,
+    /// The number of decimal places of both.
     pub k: u32,
 }
 
 /// The fraction `num / 10^k`.
 #[derive(Clone, Copy, Debug, PartialEq, Eq)]
 pub struct Exact {
+    /// The numerator.
     pub num: i128,
+    /// The number of decimal places.
     pub k: u32,
 }
 

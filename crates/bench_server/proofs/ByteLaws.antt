@@ -3,7 +3,7 @@ use Rattle.std.proofs.Common.{◌≡◌, ℕ, ◌+◌, ◌*◌, ◌<◌, ◌&&�
 use Rattle.std.proofs.lemmas.List.{append-nil}
 use Rattle.std.specs.Option.{option_map}
 use Rattle.std.specs.Char.{digit_value, is_ascii_hexdigit}
-use Rattle.byte_forms.specs.Numerals.{byte_at}
+use Rattle.byte_forms.specs.Numerals.{hexadecimal_byte}
 use Rattle.bench_server.proofs.Guards.{parts}
 use Rattle.bench_server.specs.LogFile.{SpellsBytes}
 use Rattle.bench_server.specs.LogReading.{bytes_of}
@@ -13,8 +13,8 @@ none_by true x o h = cc
 none_by false x o h = refl
 
 -- digits that begin with no byte spell none
-pub bytes_of-none : (digits : List ℕ) → (digits ≡ [] → ⊥) → None ≡ byte_at digits → bytes_of digits ≡ None
-unfolding byte_at bytes_of
+pub bytes_of-none : (digits : List ℕ) → (digits ≡ [] → ⊥) → None ≡ hexadecimal_byte digits → bytes_of digits ≡ None
+unfolding hexadecimal_byte bytes_of
 bytes_of-none [] some h = absurd (some refl)
 bytes_of-none (a ∷ []) some h = refl
 bytes_of-none (high ∷ low ∷ digits) some h = none_by (is_ascii_hexdigit high && is_ascii_hexdigit low) _ _ h
@@ -25,8 +25,8 @@ step_by true p q h = let same : q ≡ p = cc in rw same refl
 step_by false p q h = absurd cc
 
 -- the byte at the front, and those behind it
-pub bytes_of-step : (digits after : List ℕ) (byte : ℕ) → Some (byte, after) ≡ byte_at digits → bytes_of digits ≡ option_map (λ bytes. byte ∷ bytes) (bytes_of after)
-unfolding byte_at bytes_of
+pub bytes_of-step : (digits after : List ℕ) (byte : ℕ) → Some (byte, after) ≡ hexadecimal_byte digits → bytes_of digits ≡ option_map (λ bytes. byte ∷ bytes) (bytes_of after)
+unfolding hexadecimal_byte bytes_of
 bytes_of-step [] after byte h = absurd cc
 bytes_of-step (a ∷ []) after byte h = absurd cc
 bytes_of-step (high ∷ low ∷ digits) after byte h = step_by (is_ascii_hexdigit high && is_ascii_hexdigit low) (byte, after) (16 * digit_value high + digit_value low, digits) h
@@ -36,11 +36,11 @@ shorter_by true p q h = cc
 shorter_by false p q h = absurd cc
 
 -- a byte takes digits
-pub byte_at-shorter : (digits after : List ℕ) (byte : ℕ) → Some (byte, after) ≡ byte_at digits → length after < length digits
-unfolding byte_at
-byte_at-shorter [] after byte h = absurd cc
-byte_at-shorter (a ∷ []) after byte h = absurd cc
-byte_at-shorter (high ∷ low ∷ digits) after byte h =
+pub hexadecimal_byte-shorter : (digits after : List ℕ) (byte : ℕ) → Some (byte, after) ≡ hexadecimal_byte digits → length after < length digits
+unfolding hexadecimal_byte
+hexadecimal_byte-shorter [] after byte h = absurd cc
+hexadecimal_byte-shorter (a ∷ []) after byte h = absurd cc
+hexadecimal_byte-shorter (high ∷ low ∷ digits) after byte h =
     let same = shorter_by (is_ascii_hexdigit high && is_ascii_hexdigit low) (byte, after) (16 * digit_value high + digit_value low, digits) h in
     let behind : after ≡ digits = ap (λ (x : ℕ × List ℕ). x.1) same in rw behind (omega arith)
 
@@ -51,14 +51,14 @@ moved front byte None = refl
 moved front byte (Some tail) = ap Some (sym (append_assoc front (byte ∷ []) tail))
 
 -- the digits that are left spell no byte at their front
-pub none_left : (front digits rest : List ℕ) → option_map (λ tail. front ++ tail) (bytes_of rest) ≡ bytes_of digits → 0 < length rest → None ≡ byte_at rest → None ≡ bytes_of digits
+pub none_left : (front digits rest : List ℕ) → option_map (λ tail. front ++ tail) (bytes_of rest) ≡ bytes_of digits → 0 < length rest → None ≡ hexadecimal_byte rest → None ≡ bytes_of digits
 none_left front digits rest h some none =
     let no : rest ≡ [] → ⊥ = λ (e : rest ≡ []). (let k : length rest ≡ 0 = ap length e in omega arith) in
     sym (ap (option_map (λ tail. front ++ tail)) (bytes_of-none rest no none)) ∙ h
 
 -- one byte more
 pub one_more : (front more digits rest after : List ℕ) (byte : ℕ) → option_map (λ tail. front ++ tail) (bytes_of rest) ≡ bytes_of digits →
-    Some (byte, after) ≡ byte_at rest → more ≡ front ++ byte ∷ [] → option_map (λ tail. more ++ tail) (bytes_of after) ≡ bytes_of digits
+    Some (byte, after) ≡ hexadecimal_byte rest → more ≡ front ++ byte ∷ [] → option_map (λ tail. more ++ tail) (bytes_of after) ≡ bytes_of digits
 one_more front more digits rest after byte h first e =
     rw e (sym (moved front byte (bytes_of after)) ∙ ap (option_map (λ tail. front ++ tail)) (sym (bytes_of-step rest after byte first)) ∙ h)
 

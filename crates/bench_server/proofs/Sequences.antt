@@ -1,5 +1,5 @@
 -- One text written after another.
-use Rattle.std.proofs.Common.{◌≡◌, ℕ, ◌≤◌, List, [], ◌++◌, Option, Result, Ok, Err, OnOk, IfErr, ap, sym, ◌∙◌, subst, arith, append_assoc}
+use Rattle.std.proofs.Common.{◌≡◌, ℕ, ◌≤◌, List, [], ◌++◌, Option, Result, Ok, Err, OnOk, IfErr, IsErr, IsErrAnd, ap, sym, ◌∙◌, subst, arith, append_assoc}
 use Rattle.std.proofs.lemmas.List.{append-nil}
 use Rattle.std.specs.Io.KnownBytes.{append_known}
 use Rattle.port_io.proofs.Known.{append_known-append}
@@ -40,3 +40,14 @@ then_text before was now f g h u r first x y whole e same a b =
 -- the same for an equal text
 pub same_text : (before now : Option (List ℕ)) (f g : ℕ) (r : Result (Unit {0}) Status) (x y : List ℕ) → x ≡ y → WritesText before now f g r x → WritesText before now f g r y
 same_text before now f g r x y e h = let P : List ℕ → Type 0 = WritesText before now f g r in subst P e h
+
+same_stop : (r : Result (Unit {0}) Status) (stop : Status) → IsErr r × IsErrAnd r (λ s. s ≡ stop) → r ≡ Err stop
+same_stop (Ok u) stop h = let e = h.0 in absurd cc
+same_stop (Err s) stop h = ap Err h.1
+
+-- a stop that is passed on
+pub stopped : (before now : Option (List ℕ)) (f g : ℕ) (text : List ℕ) (r : Result (Unit {0}) Status) (stop : Status) → IsErr r × IsErrAnd r (λ s. s ≡ stop) →
+    WritesText before now f g (Err stop) text → WritesText before now f g r text
+stopped before now f g text r stop h w =
+    let P : Result (Unit {0}) Status → Type 0 = λ x. WritesText before now f g x text in
+    subst P (sym (same_stop r stop h)) w

@@ -12,7 +12,7 @@ use Rattle.bench_server.specs.LogFile.{IsLogFault}
 use Rattle.bench_server.specs.Tool.{Files, file_limit, RefusedAt, HasDatabase, HasText, IsFileRefused}
 use Rattle.bench_server.specs.Writing.{AppendsPrefix}
 
--- counts of faults before and after a call
+-- a count of faults before and after a call
 pub record Counts : Type 0 where
   pub before : ℕ
   pub now : ℕ
@@ -42,10 +42,13 @@ FailsAsLog left reads status.WriteFault = ⊥
 
 -- what stands before and after a decode of a bus
 pub record Stands : Type 0 where
+  -- the library's files, where they are told
   pub files : Option Files
+  -- the library's counts of failed opens and of failed reads, and the output's of failed writes
   pub opens : Counts
   pub reads : Counts
   pub writes : Counts
+  -- what was written to the output, where it is told
   pub before : Option (List ℕ)
   pub now : Option (List ℕ)
 
@@ -62,7 +65,7 @@ NothingWritten s = s.now ≡ s.before
 abbrev pub WrittenInPart : Stands → BusFiles → Type 0
 WrittenInPart s bus = NothingWritten s ⊎ IfSome s.files (λ fs. (text : List ℕ) × HasText fs bus text × AppendsPrefix s.before s.now text)
 
--- a decode of a bus ended so, with its cause and what was written
+-- a decode of a bus ended so, with its cause and what was written; failed says that a read of the log did
 abbrev pub EndsBus : Stands → BusFiles → Type 0 → Status → Type 0
 EndsBus s bus failed status.Ok = IfSome s.files (λ fs. (text : List ℕ) × HasText fs bus text × (s.now ≡ append_known s.before text))
 EndsBus s bus failed status.Usage = ⊥

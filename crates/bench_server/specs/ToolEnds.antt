@@ -17,7 +17,8 @@ use Rattle.bench_server.specs.FaultLine.{fault_line, Reports}
 abbrev pub WritesPrefix : Stands → List ℕ → Type 0
 WritesPrefix s bench = IfSome s.files (λ fs. (text : List ℕ) × IsToolText fs bench text × AppendsPrefix s.before s.now text)
 
--- a run for the words of this bench file, or for words of no command, ended so: its cause and what was written
+-- a run for the words of this bench file, or for words of no command, ended so: its cause and what was written;
+-- failed says that a read of the log did
 abbrev pub EndsTool : Stands → Option (List ℕ) → Type 0 → Status → Type 0
 EndsTool s None failed status.Usage = NothingWritten s
 EndsTool s None failed other = ⊥
@@ -62,7 +63,7 @@ abbrev pub AreWordLogs : {S : Type 0} → Option Files → Option (List ℕ) →
 AreWordLogs files (Some bench) left taken logs = AreToolLogs files bench left taken logs
 AreWordLogs files None left taken logs = logs ≡ []
 
--- the same for the words of the command line; words of no command name no file
+-- the files that are to be opened for the words of the command line are there; words of no command name none
 abbrev pub HasWordFiles : Option Files → Option (List ℕ) → Type 0
 HasWordFiles files (Some bench) = HasToolFiles files bench
 HasWordFiles files None = Unit {0}

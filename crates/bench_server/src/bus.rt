@@ -43,10 +43,7 @@ fn read_database<B: Library>(
     ensures files { B.files library.new ≡ B.files library.old }
     ensures strays { B.strays library.new ≡ strays_after (B.files library.old) name.now (B.strays library.old) }
 {
-    let bytes = match read_file(alloc, library, file_name(name), DATABASE_FILE) {
-        Ok(bytes) => bytes,
-        Err(status) => return Err(status),
-    };
+    let bytes = read_file(alloc, library, file_name(name), DATABASE_FILE)?;
     match read_dbc(alloc, &bytes) {
         Ok(database) => Ok(database),
         Err(DbcFault::NotBuilt { line }) => Err(Status::NotBuilt {
@@ -103,6 +100,7 @@ fn open_log<B: Library>(
         return Err(Status::OpenFault);
     };
     let frames = read_frames(alloc, &mut log);
+    // There is room, so that want of memory loses no log that was opened.
     logs.push(log).unwrap();
     frames
 }
@@ -132,16 +130,8 @@ pub(crate) fn decode<B: Library, K: Sink>(
     ensures files { B.files library.new ≡ B.files library.old }
     ensures strays { HasBusFiles (B.files library.old) (files_of bus.now) → B.strays library.new ≡ B.strays library.old }
 {
-    let database = match read_database(alloc, library, bus.database) {
-        Ok(database) => database,
-        Err(status) => return Err(status),
-    };
-    let Ok(bench) = one_bus(alloc, bus.name, database) else {
-        return Err(Status::Memory);
-    };
-    let frames = match open_log(alloc, library, bus.log, logs) {
-        Ok(frames) => frames,
-        Err(status) => return Err(status),
-    };
+    let database = read_database(alloc, library, bus.database)?;
+    let bench = one_bus(alloc, bus.name, database)?;
+    let frames = open_log(alloc, library, bus.log, logs)?;
     write_bus(alloc, &bench, bus.name, &frames, out)
 }

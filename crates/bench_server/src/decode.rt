@@ -90,9 +90,7 @@ fn write_records<K: Sink>(
 {
     for (number, frame) in frames.iter().enumerate() {
         let text = record_text(alloc, bench, name, number as u64, frame)?;
-        if let Err(stop) = write_text(out, &text) {
-            return Err(stop);
-        }
+        write_text(out, &text)?;
     }
     Ok(())
 }
@@ -131,11 +129,7 @@ pub(crate) fn write_bus<K: Sink>(
 {
     let start = start_text(alloc, name, frames)?;
     let end = end_text(alloc, name, frames)?;
-    if let Err(stop) = write_text(out, &start) {
-        return Err(stop);
-    }
-    if let Err(stop) = write_records(alloc, bench, name, frames, out) {
-        return Err(stop);
-    }
+    write_text(out, &start)?;
+    write_records(alloc, bench, name, frames, out)?;
     write_text(out, &end)
 }

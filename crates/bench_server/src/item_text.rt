@@ -5,7 +5,7 @@ ghost use Rattle.bench_model.specs.declared.reading.Body.TheVariants as Bodies;
 ghost use Rattle.bench_model.specs.declared.reading.Item.TheVariants as Items;
 ghost use Rattle.bench_server.specs.ItemText.{line_of, hex_digit, hex_digits, hex_bytes, key_text, quoted_byte, quoted, signal_line, signal_lines, body_text, reading_text, item_text};
 ghost use Rattle.bench_server.specs.WholeBench.{IsFrameBody};
-ghost use Rattle.bench_server.specs.TextView.{texts, IsStampOf};
+ghost use Rattle.bench_server.specs.TextView.{texts, AreDigitsOf};
 
 use bench_model::{Body, Key, Reading, SignalValue, Text};
 use std::alloc::{AllocError, Global};
@@ -124,17 +124,17 @@ fn push_signals(alloc: Global, out: &mut Vec<u8>, signals: &[SignalValue]) -> Re
 
 /// The digits that a record's first line begins with, behind the bus.
 #[derive(Drop)]
-struct Stamp {
+struct RecordDigits {
     number: String,
     version: String,
     micros: String,
 }
 
 /// The digits of a record.
-fn stamp_of(alloc: Global, reading: &Reading) -> Result<Stamp, AllocError>
-    ensures { IfOk result (λ stamp. IsStampOf stamp reading.now) }
+fn record_digits(alloc: Global, reading: &Reading) -> Result<RecordDigits, AllocError>
+    ensures { IfOk result (λ digits. AreDigitsOf digits reading.now) }
 {
-    Ok(Stamp {
+    Ok(RecordDigits {
         number: reading.number.to_string(alloc)?,
         version: reading.version.to_string(alloc)?,
         micros: reading.micros.to_string(alloc)?,
@@ -153,12 +153,12 @@ fn push_message(
     requires { All (λ s. s.value.k ≡ 0) signals.now }
     ensures { OnOk result (out.new.items ≡ out.old.items ++ body_text bus.now reading.now (Bodies.Message name.now signals.now)) }
 {
-    let stamp = stamp_of(alloc, reading)?;
+    let digits = record_digits(alloc, reading)?;
     let words = [
         bus,
-        stamp.number.as_bytes(),
-        stamp.version.as_bytes(),
-        stamp.micros.as_bytes(),
+        digits.number.as_bytes(),
+        digits.version.as_bytes(),
+        digits.micros.as_bytes(),
         name.bytes(),
     ];
     push_line(out, b"m", &words)?;
@@ -176,15 +176,15 @@ fn push_unmatched(
 ) -> Result<(), AllocError>
     ensures { OnOk result (out.new.items ≡ out.old.items ++ body_text bus.now reading.now (Bodies.Unmatched key bytes.now)) }
 {
-    let stamp = stamp_of(alloc, reading)?;
+    let digits = record_digits(alloc, reading)?;
     let mut frame = key_digits(alloc, key)?;
     frame.push(b'#')?;
     push_hex_bytes(&mut frame, bytes)?;
     let words = [
         bus,
-        stamp.number.as_bytes(),
-        stamp.version.as_bytes(),
-        stamp.micros.as_bytes(),
+        digits.number.as_bytes(),
+        digits.version.as_bytes(),
+        digits.micros.as_bytes(),
         &frame,
     ];
     push_line(out, b"u", &words)

@@ -6,9 +6,9 @@
 //! the real files and streams.
 //! Reading the bench file and the log, and the text of the items, are private parts of it.
 //!
-//! Main theorem: on success `run_tool` has appended to its output exactly the tool's text, a function of the
-//! bytes of the bench file, the database and the log alone, and every other status but want of memory has its
-//! cause.
+//! Main theorem: where the library tells its files, `run_tool` has on success appended to its output exactly the
+//! tool's text, a function of the bytes of the bench file, the database and the log alone, and every other status
+//! but want of memory has its cause.
 #![tactic(auto)]
 
 mod bench_file;

@@ -10,7 +10,9 @@ ghost use Rattle.bench_server.specs.LogView.{texts_of, pieces_view};
 use crate::Status;
 use crate::status::LOG_FILE;
 use bench_model::{Key, Text};
-use byte_forms::{Class, Radix, after_literal, byte_at, field_before, next_line, number_up_to};
+use byte_forms::{
+    Class, Radix, after_literal, field_before, hexadecimal_byte, next_line, number_up_to,
+};
 use std::alloc::{AllocError, Global};
 
 /// The most bytes that a line of a log may have.
@@ -85,7 +87,7 @@ fn bytes_of(alloc: Global, digits: &[u8]) -> Result<Option<Text>, AllocError>
     let mut bytes = Vec::new(alloc);
     let mut rest = digits;
     while !rest.is_empty() {
-        let Some((byte, after)) = byte_at(rest) else {
+        let Some((byte, after)) = hexadecimal_byte(rest) else {
             return Ok(None);
         };
         bytes.push(byte)?;

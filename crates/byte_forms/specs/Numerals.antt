@@ -54,10 +54,10 @@ pub record IsSignedNumeral (text : List ℕ) (n : ℤ) : Type 0 where
       ⊎ ((text ≡ 45 ∷ digits) × (n ≡ neg_ℤ (pos (number_of radixes.Decimal digits))))
 
 -- the byte that the two hexadecimal digits at the front spell, and the text after them
-unfoldable pub byte_at : List ℕ → Option (ℕ × List ℕ)
-byte_at [] = None
-byte_at (high ∷ []) = None
-byte_at (high ∷ low ∷ rest) =
+unfoldable pub hexadecimal_byte : List ℕ → Option (ℕ × List ℕ)
+hexadecimal_byte [] = None
+hexadecimal_byte (high ∷ []) = None
+hexadecimal_byte (high ∷ low ∷ rest) =
     if is_ascii_hexdigit high && is_ascii_hexdigit low
     then Some (16 * digit_value high + digit_value low, rest)
     else None

@@ -1,7 +1,7 @@
 //! Lines, literals, runs of bytes and numerals: the forms that the readers of the bench's files share.
-//! It stands on std alone and takes no memory. Each reader works on the front of a byte slice and gives
-//! the rest, and its contract is an equation with a function on lists (`specs/`), about which `proofs/`
-//! has the laws that join pieces to a text and take it apart again.
+//! It stands on std alone and takes no memory. Some readers take the front of a byte slice and give the rest,
+//! others judge a whole text; all contracts but that of `next_line` are equations with functions on lists
+//! (`specs/`), about which `proofs/` has the laws that join pieces to a text and take it apart again.
 //! Main theorem: `next_line` gives the first of all lines of a text and a rest that has the others.
 #![tactic(auto)]
 
@@ -13,7 +13,7 @@ mod runs;
 
 pub use class::Class;
 pub use lines::next_line;
-pub use numerals::{Radix, byte_at, number_up_to, signed_decimal};
+pub use numerals::{Radix, hexadecimal_byte, number_up_to, signed_decimal};
 pub use pieces::{after_literal, field_before};
 pub use runs::{is_all, is_word, run};
 

@@ -3,7 +3,7 @@
 ghost use Rattle.std.specs.Prelude.{◌≡◌, ◌+◌, ◌-◌, ◌*◌, ◌<◌, ◌≤◌, ◌^◌, Some, None, IfSome, pos, neg_ℤ, true, nat_le, if◌then◌else◌};
 ghost use Rattle.std.specs.Char.{digit_value, is_ascii_hexdigit};
 ghost use Rattle.byte_forms.specs.Classes.{is_in};
-ghost use Rattle.byte_forms.specs.Numerals.{base_of, digit_class, number_up_to, signed_decimal, short_decimal, byte_at};
+ghost use Rattle.byte_forms.specs.Numerals.{base_of, digit_class, number_up_to, signed_decimal, short_decimal, hexadecimal_byte};
 ghost use Rattle.byte_forms.specs.Pieces.{value_view};
 
 use crate::{Class, after_literal};
@@ -113,9 +113,9 @@ pub fn signed_decimal(text: &[u8]) -> Option<i64>
 }
 
 /// The byte that the two hexadecimal digits at the front spell, and the text after them.
-#[tactic(auto, unfolding(crate::specs::Numerals::byte_at))]
-pub fn byte_at(bytes: &[u8]) -> Option<(u8, &[u8])>
-    ensures { value_view result ≡ byte_at bytes.now }
+#[tactic(auto, unfolding(crate::specs::Numerals::hexadecimal_byte))]
+pub fn hexadecimal_byte(bytes: &[u8]) -> Option<(u8, &[u8])>
+    ensures { value_view result ≡ hexadecimal_byte bytes.now }
 {
     let [high, low, rest @ ..] = bytes else {
         return None;

@@ -54,9 +54,9 @@ fn numbers_are_judged_by_their_value(rt: HostRuntime) {
     assert_eq!(rt; signed_decimal(b"-"), None);
     assert_eq!(rt; signed_decimal(b"--1"), None);
     assert_eq!(rt; signed_decimal(b"+1"), None);
-    assert!(rt; matches!(byte_at(b"fA1"), Some((250, b"1"))));
-    assert!(rt; byte_at(b"f").is_none());
-    assert!(rt; byte_at(b"fg").is_none());
+    assert!(rt; matches!(hexadecimal_byte(b"fA1"), Some((250, b"1"))));
+    assert!(rt; hexadecimal_byte(b"f").is_none());
+    assert!(rt; hexadecimal_byte(b"fg").is_none());
 }
 
 /// A byte, and whether each class of this list has it: those for words, texts and digits.

@@ -8,8 +8,8 @@ use Rattle.byte_forms.specs.Numerals.{IsSignedNumeral}
 use Rattle.byte_forms.proofs.SignedLaws.{IsSignedNumeral-size}
 use Rattle.bench_model.specs.declared.database.Signal.{Signal}
 use Rattle.bench_model.specs.Limits.{IsNumerator, IsLawfulSignal, IsLawfulMessage}
-use Rattle.dbc_grammar.specs.Statement.{Statement, Blank, Version, Begins, Adds, Field, signal_of, signals_before_next, gather}
-use Rattle.dbc_grammar.specs.Spelling.{SpellsField, Spells}
+use Rattle.dbc_grammar.specs.Statement.{Statement, Blank, Version, Begins, Adds, SignalLine, signal_of, signals_before_next, gather}
+use Rattle.dbc_grammar.specs.Spelling.{SpellsSignalLine, Spells}
 use Rattle.dbc_grammar.specs.Lawful.{AreLawfulAfter}
 use Rattle.dbc_grammar.specs.Whole.{IsWholeCoding, HasWholeSignals}
 
@@ -24,7 +24,7 @@ numeral : (digits : List ℕ) (n : ℤ) → IsSignedNumeral digits n → IsNumer
 numeral digits n is = numerator n (IsSignedNumeral-size digits n is)
 
 -- a signal's line makes a lawful signal
-field_fits : (text : List ℕ) (f : Field) → SpellsField text f → IsLawfulSignal (signal_of f)
+field_fits : (text : List ℕ) (f : SignalLine) → SpellsSignalLine text f → IsLawfulSignal (signal_of f)
 field_fits text f s = record {
   some_bits = s.some_bits;
   size = s.size_is.within;

@@ -2,7 +2,7 @@
 use Rattle.std.proofs.Common.{◌≡◌, List, [], ◌∷◌, ◌++◌, refl, ap, ◌∙◌}
 use Rattle.bench_model.specs.declared.database.Message.{Message}
 use Rattle.bench_model.specs.declared.database.Signal.{Signal}
-use Rattle.dbc_grammar.specs.Statement.{Statement, Blank, Version, Begins, Adds, Heading, Field, signal_of, message_of, signals_before_next, gather}
+use Rattle.dbc_grammar.specs.Statement.{Statement, Blank, Version, Begins, Adds, MessageLine, SignalLine, signal_of, message_of, signals_before_next, gather}
 use Rattle.dbc_grammar.specs.Reading.{onto_last, with_statement}
 
 -- a statement that is no signal's ends no run of signals and adds none
@@ -22,7 +22,7 @@ signals-version (Version ∷ later) = signals-version later
 signals-version (Begins h ∷ later) = refl
 signals-version (Adds f ∷ later) = ap (λ ss. signal_of f ∷ ss) (signals-version later)
 
-signals-begins : (said : List Statement) (g : Heading) → signals_before_next (said ++ Begins g ∷ []) ≡ signals_before_next said
+signals-begins : (said : List Statement) (g : MessageLine) → signals_before_next (said ++ Begins g ∷ []) ≡ signals_before_next said
 unfolding signals_before_next
 signals-begins [] g = refl
 signals-begins (Blank ∷ later) g = signals-begins later g
@@ -39,7 +39,7 @@ joined-cons : (s x : Signal) (signals : List Signal) (messages : List Message) �
 joined-cons s x signals [] = refl
 joined-cons s x signals (m ∷ later) = refl
 
-signals-adds : (said : List Statement) (g : Field) → signals_before_next (said ++ Adds g ∷ []) ≡ joined (signal_of g) (signals_before_next said) (gather said)
+signals-adds : (said : List Statement) (g : SignalLine) → signals_before_next (said ++ Adds g ∷ []) ≡ joined (signal_of g) (signals_before_next said) (gather said)
 unfolding signals_before_next gather
 signals-adds [] g = refl
 signals-adds (Blank ∷ later) g = signals-adds later g
@@ -48,7 +48,7 @@ signals-adds (Begins h ∷ later) g = refl
 signals-adds (Adds f ∷ later) g =
     ap (λ ss. signal_of f ∷ ss) (signals-adds later g) ∙ joined-cons (signal_of g) (signal_of f) (signals_before_next later) (gather later)
 
-onto_joined : (s : Signal) (h : Heading) (signals : List Signal) (messages : List Message)
+onto_joined : (s : Signal) (h : MessageLine) (signals : List Signal) (messages : List Message)
     → message_of h (joined s signals messages) ∷ onto_last s messages ≡ onto_last s (message_of h signals ∷ messages)
 unfolding onto_last
 onto_joined s h signals [] = refl
@@ -70,7 +70,7 @@ gather-version (Version ∷ later) = gather-version later
 gather-version (Begins h ∷ later) = rw (signals-version later, gather-version later) refl
 gather-version (Adds f ∷ later) = gather-version later
 
-gather-begins : (said : List Statement) (g : Heading) → gather (said ++ Begins g ∷ []) ≡ gather said ++ message_of g [] ∷ []
+gather-begins : (said : List Statement) (g : MessageLine) → gather (said ++ Begins g ∷ []) ≡ gather said ++ message_of g [] ∷ []
 unfolding gather signals_before_next
 gather-begins [] g = refl
 gather-begins (Blank ∷ later) g = gather-begins later g
@@ -78,7 +78,7 @@ gather-begins (Version ∷ later) g = gather-begins later g
 gather-begins (Begins h ∷ later) g = rw (signals-begins later g, gather-begins later g) refl
 gather-begins (Adds f ∷ later) g = gather-begins later g
 
-gather-adds : (said : List Statement) (g : Field) → gather (said ++ Adds g ∷ []) ≡ onto_last (signal_of g) (gather said)
+gather-adds : (said : List Statement) (g : SignalLine) → gather (said ++ Adds g ∷ []) ≡ onto_last (signal_of g) (gather said)
 unfolding gather onto_last
 gather-adds [] g = refl
 gather-adds (Blank ∷ later) g = gather-adds later g

@@ -6,9 +6,9 @@ use Rattle.std.proofs.lemmas.List.{append-nil}
 use Rattle.std.proofs.lemmas.Option.{cond_some, same_Some}
 use Rattle.byte_forms.specs.Numerals.{IsSignedNumeral}
 use Rattle.byte_forms.proofs.PieceLaws.{bind_some}
-use Rattle.dbc_grammar.specs.Statement.{Heading, Field}
+use Rattle.dbc_grammar.specs.Statement.{MessageLine, SignalLine}
 use Rattle.dbc_grammar.specs.Names.{is_node}
-use Rattle.dbc_grammar.specs.Spelling.{IsNumeral, SpellsHeading, SpellsField}
+use Rattle.dbc_grammar.specs.Spelling.{IsNumeral, SpellsMessageLine, SpellsSignalLine}
 use Rattle.dbc_grammar.specs.Reading.{name_before, number_before, signed_before, unit_before, heading_at, place_at, scaling_at, field_at}
 use Rattle.dbc_grammar.proofs.FieldLaws.{name_before_takes, name_before-is, number_before_takes, number_before-is, signed_before_takes, signed_before-is, unit_before_takes, unit_before-is}
 
@@ -18,7 +18,7 @@ next text field literal rest whole front back = front ∙ ap (λ (r : List ℕ).
 
 -- ---- a message's line
 
-pub heading_takes : (text : List ℕ) (h : Heading) → heading_at text ≡ Some h → SpellsHeading (codes "BO_ " ++ text) h
+pub heading_takes : (text : List ℕ) (h : MessageLine) → heading_at text ≡ Some h → SpellsMessageLine (codes "BO_ " ++ text) h
 unfolding heading_at
 heading_takes text h e =
     let a = bind_some (number_before 2047 (codes " ") text) _ h e in
@@ -28,7 +28,7 @@ heading_takes text h e =
     let id = number_before_takes 2047 (codes " ") text a.0.0 a.0.1 a.1 in
     let name = name_before_takes (codes ": ") a.0.1 b.0.0 b.0.1 b.1 in
     let byte_count = number_before_takes 8 (codes " ") b.0.1 c.0.0 c.0.1 c.1 in
-    subst (λ (h : Heading). SpellsHeading (codes "BO_ " ++ text) h) d.1 (record {
+    subst (λ (h : MessageLine). SpellsMessageLine (codes "BO_ " ++ text) h) d.1 (record {
       id = id.0;
       byte_count = byte_count.0;
       node = c.0.1;
@@ -42,7 +42,7 @@ heading_takes text h e =
       node_is = d.0;
     })
 
-pub heading-is : (text : List ℕ) (h : Heading) → SpellsHeading text h → (rest : List ℕ) × (text ≡ codes "BO_ " ++ rest) × (heading_at rest ≡ Some h)
+pub heading-is : (text : List ℕ) (h : MessageLine) → SpellsMessageLine text h → (rest : List ℕ) × (text ≡ codes "BO_ " ++ rest) × (heading_at rest ≡ Some h)
 unfolding heading_at
 heading-is text h s =
     let last : List ℕ = s.node ++ [] in
@@ -155,7 +155,7 @@ scaling-is factors offsets lows highs factor offset low high rest factor_is offs
       signed_before-is (codes "] \"") highs high rest high_is refl,
     ) refl
 
-pub field_takes : (text : List ℕ) (f : Field) → field_at text ≡ Some f → SpellsField (codes "SG_ " ++ text) f
+pub field_takes : (text : List ℕ) (f : SignalLine) → field_at text ≡ Some f → SpellsSignalLine (codes "SG_ " ++ text) f
 unfolding field_at
 field_takes text f e =
     let a = bind_some (name_before (codes " : ") text) _ f e in
@@ -170,7 +170,7 @@ field_takes text f e =
     let united : c.0.2 ≡ d.0.0 ++ (codes "\" " ++ (d.0.1 ++ [])) = next c.0.2 d.0.0 (codes "\" ") d.0.1 _ unit.0 (sym (append-nil d.0.1)) in
     let scaled = scaling.pieces ∙ ap (λ (r : List ℕ). scaling.factor ++ (codes "," ++ (scaling.offset ++ (codes ") [" ++ (scaling.low ++ (codes "|" ++ (scaling.high ++ (codes "] \"" ++ r)))))))) united in
     let placed = place.pieces ∙ ap (λ (r : List ℕ). place.start ++ (codes "|" ++ (place.size ++ (codes "@1+ (" ++ r)))) scaled in
-    subst (λ (f : Field). SpellsField (codes "SG_ " ++ text) f) chosen.1 (record {
+    subst (λ (f : SignalLine). SpellsSignalLine (codes "SG_ " ++ text) f) chosen.1 (record {
       start = place.start;
       size = place.size;
       factor = scaling.factor;
@@ -191,7 +191,7 @@ field_takes text f e =
       node_is = chosen.0;
     })
 
-pub field-is : (text : List ℕ) (f : Field) → SpellsField text f → (rest : List ℕ) × (text ≡ codes "SG_ " ++ rest) × (field_at rest ≡ Some f)
+pub field-is : (text : List ℕ) (f : SignalLine) → SpellsSignalLine text f → (rest : List ℕ) × (text ≡ codes "SG_ " ++ rest) × (field_at rest ≡ Some f)
 unfolding field_at
 field-is text f s =
     let last : List ℕ = s.node ++ [] in

@@ -14,8 +14,8 @@ use Rattle.byte_forms.specs.Classes.{is_in, drop_while}
 use Rattle.byte_forms.specs.Pieces.{after_literal}
 use Rattle.byte_forms.proofs.RunLaws.{take_while-append-drop_while, drop_while-before}
 use Rattle.byte_forms.proofs.PieceLaws.{after_literal_takes, after_literal-append}
-use Rattle.dbc_grammar.specs.Statement.{Statement, Blank, Version, Begins, Adds, Heading, Field}
-use Rattle.dbc_grammar.specs.Spelling.{SpellsHeading, SpellsField, SpellsText, Spells}
+use Rattle.dbc_grammar.specs.Statement.{Statement, Blank, Version, Begins, Adds, MessageLine, SignalLine}
+use Rattle.dbc_grammar.specs.Spelling.{SpellsMessageLine, SpellsSignalLine, SpellsText, Spells}
 use Rattle.dbc_grammar.specs.Reading.{heading_at, field_at, statement_by, text_statement, statement_of}
 use Rattle.dbc_grammar.proofs.LineSpelling.{heading_takes, heading-is, field_takes, field-is}
 
@@ -30,13 +30,13 @@ statement_by_takes : (text : List ℕ) (heading field : Option (List ℕ)) (s : 
 statement_by_takes text (Some rest) field s is_heading is_field e =
     let found = mapped Begins (heading_at rest) s e in
     let whole : text ≡ codes "BO_ " ++ rest = after_literal_takes (codes "BO_ ") text rest is_heading in
-    let spells : SpellsHeading (codes "BO_ " ++ rest) found.0 = heading_takes rest found.0 found.1 in
-    subst (λ (s : Statement). SpellsText text s) found.2 (subst (λ (t : List ℕ). SpellsHeading t found.0) (sym whole) spells)
+    let spells : SpellsMessageLine (codes "BO_ " ++ rest) found.0 = heading_takes rest found.0 found.1 in
+    subst (λ (s : Statement). SpellsText text s) found.2 (subst (λ (t : List ℕ). SpellsMessageLine t found.0) (sym whole) spells)
 statement_by_takes text None (Some rest) s is_heading is_field e =
     let found = mapped Adds (field_at rest) s e in
     let whole : text ≡ codes "SG_ " ++ rest = after_literal_takes (codes "SG_ ") text rest is_field in
-    let spells : SpellsField (codes "SG_ " ++ rest) found.0 = field_takes rest found.0 found.1 in
-    subst (λ (s : Statement). SpellsText text s) found.2 (subst (λ (t : List ℕ). SpellsField t found.0) (sym whole) spells)
+    let spells : SpellsSignalLine (codes "SG_ " ++ rest) found.0 = field_takes rest found.0 found.1 in
+    subst (λ (s : Statement). SpellsText text s) found.2 (subst (λ (t : List ℕ). SpellsSignalLine t found.0) (sym whole) spells)
 statement_by_takes text None None s is_heading is_field e =
     let chosen = cond_some (bytes_eq text (codes "VERSION \"\"")) Version s e in
     subst (λ (s : Statement). SpellsText text s) chosen.1 ((bytes_eq-Decides text (codes "VERSION \"\"")).0 chosen.0)
@@ -54,14 +54,14 @@ version_is : text_statement (codes "VERSION \"\"") ≡ Some Version
 unfolding text_statement after_literal
 version_is = refl
 
-begins-is : (text : List ℕ) (h : Heading) → SpellsHeading text h → text_statement text ≡ Some (Begins h)
+begins-is : (text : List ℕ) (h : MessageLine) → SpellsMessageLine text h → text_statement text ≡ Some (Begins h)
 unfolding text_statement
 begins-is text h spells =
     let read = heading-is text h spells in
     let behind : after_literal (codes "BO_ ") text ≡ Some read.0 = ap (after_literal (codes "BO_ ")) read.1 ∙ after_literal-append (codes "BO_ ") read.0 in
     rw (behind, read.2) refl
 
-adds-is : (text : List ℕ) (f : Field) → SpellsField text f → text_statement text ≡ Some (Adds f)
+adds-is : (text : List ℕ) (f : SignalLine) → SpellsSignalLine text f → text_statement text ≡ Some (Adds f)
 unfolding text_statement
 adds-is text f spells =
     let read = field-is text f spells in

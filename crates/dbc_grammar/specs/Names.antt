@@ -9,7 +9,7 @@ use Rattle.byte_forms.specs.Classes.{is_in, is_word}
 unfoldable pub is_name : List ℕ → Bool
 is_name text = is_word text && nat_le (length text) 128
 
--- the words that begin the statements of the DBC format
+-- the words that begin the statements of the DBC format, with those that its `NS_` list names
 unfoldable pub statement_words : List (List ℕ)
 statement_words =
     codes "VERSION" ∷ codes "NS_" ∷ codes "BS_" ∷ codes "BU_" ∷ codes "BO_" ∷ codes "SG_" ∷ codes "VAL_"

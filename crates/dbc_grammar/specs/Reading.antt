@@ -9,7 +9,7 @@ use Rattle.byte_forms.specs.Pieces.{◌>>=◌, after_literal, field_before}
 use Rattle.byte_forms.specs.Numerals.{number_up_to, signed_decimal}
 use Rattle.bench_model.specs.declared.database.Message.{Message}
 use Rattle.bench_model.specs.declared.database.Signal.{Signal}
-use Rattle.dbc_grammar.specs.Statement.{Statement, Blank, Version, Begins, Adds, Heading, Field, message_of, signal_of}
+use Rattle.dbc_grammar.specs.Statement.{Statement, Blank, Version, Begins, Adds, MessageLine, SignalLine, message_of, signal_of}
 use Rattle.dbc_grammar.specs.Names.{is_name, is_node, is_unit}
 use Rattle.dbc_grammar.specs.Lawful.{may_follow}
 
@@ -37,7 +37,7 @@ unit_before literal text = do
   if is_unit field.0 then Some field else None
 
 -- a message's line behind its first word
-unfoldable pub heading_at : List ℕ → Option Heading
+unfoldable pub heading_at : List ℕ → Option MessageLine
 heading_at text = do
   id ← number_before 2047 (codes " ") text
   name ← name_before (codes ": ") id.1
@@ -61,7 +61,7 @@ place_at text = do
   if size.0 == 0 then None else Some (start.0, size.0, size.1)
 
 -- a signal's line behind its first word
-unfoldable pub field_at : List ℕ → Option Field
+unfoldable pub field_at : List ℕ → Option SignalLine
 field_at text = do
   name ← name_before (codes " : ") text
   place ← place_at name.1

@@ -3,7 +3,7 @@ use Rattle.std.specs.Prelude.{◌≡◌, ◌≤◌, ℕ, ℤ, true, List, [], �
 use Rattle.std.specs.List.{concat}
 use Rattle.byte_forms.specs.declared.numerals.Radix.TheVariants.{Decimal}
 use Rattle.byte_forms.specs.Numerals.{is_numeral, number_of, IsSignedNumeral}
-use Rattle.dbc_grammar.specs.Statement.{Statement, Blank, Version, Begins, Adds, Heading, Field}
+use Rattle.dbc_grammar.specs.Statement.{Statement, Blank, Version, Begins, Adds, MessageLine, SignalLine}
 use Rattle.dbc_grammar.specs.Names.{is_name, is_node, is_unit}
 
 -- decimal digits that spell a number up to the limit
@@ -13,7 +13,7 @@ pub record IsNumeral (limit : ℕ) (digits : List ℕ) (n : ℕ) : Type 0 where
   pub within : n ≤ limit
 
 -- BO_ ID NAME: LENGTH NODE
-pub record SpellsHeading (text : List ℕ) (h : Heading) : Type 0 where
+pub record SpellsMessageLine (text : List ℕ) (h : MessageLine) : Type 0 where
   pub id : List ℕ
   pub byte_count : List ℕ
   pub node : List ℕ
@@ -24,7 +24,7 @@ pub record SpellsHeading (text : List ℕ) (h : Heading) : Type 0 where
   pub node_is : is_node node ≡ true
 
 -- SG_ NAME : START|SIZE@1+ (FACTOR,OFFSET) [LOW|HIGH] "UNIT" NODE
-pub record SpellsField (text : List ℕ) (f : Field) : Type 0 where
+pub record SpellsSignalLine (text : List ℕ) (f : SignalLine) : Type 0 where
   pub start : List ℕ
   pub size : List ℕ
   pub factor : List ℕ
@@ -49,8 +49,8 @@ pub record SpellsField (text : List ℕ) (f : Field) : Type 0 where
 abbrev pub SpellsText : List ℕ → Statement → Type 0
 SpellsText text Blank = ⊥
 SpellsText text Version = text ≡ codes "VERSION \"\""
-SpellsText text (Begins h) = SpellsHeading text h
-SpellsText text (Adds f) = SpellsField text f
+SpellsText text (Begins h) = SpellsMessageLine text h
+SpellsText text (Adds f) = SpellsSignalLine text f
 
 -- spaces, and a text that says this
 abbrev pub IsIndented : List ℕ → Statement → Type 0

@@ -6,13 +6,13 @@ use Rattle.bench_model.specs.declared.database.Signal.{Signal}
 use Rattle.bench_model.specs.declared.database.Message.{Message}
 
 -- what a message's line says: the identifier of 11 bits, the name and the length in bytes
-pub record Heading : Type 0 where
+pub record MessageLine : Type 0 where
   pub id : ℕ
   pub name : List ℕ
   pub byte_count : ℕ
 
 -- what a signal's line says: the name, the place of the lowest bit, the number of bits, the scaling and the unit
-pub record Field : Type 0 where
+pub record SignalLine : Type 0 where
   pub name : List ℕ
   pub start : ℕ
   pub size : ℕ
@@ -24,11 +24,11 @@ pub record Field : Type 0 where
 pub data Statement : Type 0 where
   Blank : Statement
   Version : Statement
-  Begins : Heading → Statement
-  Adds : Field → Statement
+  Begins : MessageLine → Statement
+  Adds : SignalLine → Statement
 
 -- the signal of a line: little endian, unsigned and with a scaling in whole numbers
-abbrev pub signal_of : Field → Signal
+abbrev pub signal_of : SignalLine → Signal
 signal_of f = record {
   name = f.name;
   start = f.start;
@@ -40,7 +40,7 @@ signal_of f = record {
 }
 
 -- the message of a line and these signals
-abbrev pub message_of : Heading → List Signal → Message
+abbrev pub message_of : MessageLine → List Signal → Message
 message_of h signals = record {
   name = h.name;
   key = record { extended = false; id = h.id };

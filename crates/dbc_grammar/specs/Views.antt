@@ -2,16 +2,16 @@
 use Rattle.std.specs.Prelude.{ℕ, ℤ, List, Option, Some, None}
 use Rattle.std.specs.Borrow.{Bor}
 use Rattle.std.specs.Option.{option_map}
-use Rattle.dbc_grammar.specs.declared.statement.Heading.{Heading as HeadingLine}
-use Rattle.dbc_grammar.specs.declared.statement.Field.{Field as FieldLine}
+use Rattle.dbc_grammar.specs.declared.statement.MessageLine.{MessageLine as LentMessageLine}
+use Rattle.dbc_grammar.specs.declared.statement.SignalLine.{SignalLine as LentSignalLine}
 use Rattle.dbc_grammar.specs.declared.statement.Statement.{Statement as Line}
 use Rattle.dbc_grammar.specs.declared.statement.Statement.TheVariants as lines
-use Rattle.dbc_grammar.specs.Statement.{Statement, Blank, Version, Begins, Adds, Heading, Field}
+use Rattle.dbc_grammar.specs.Statement.{Statement, Blank, Version, Begins, Adds, MessageLine, SignalLine}
 
-abbrev pub heading : HeadingLine → Heading
+abbrev pub heading : LentMessageLine → MessageLine
 heading h = record { id = h.id; name = h.name.now; byte_count = h.byte_count }
 
-abbrev pub field : FieldLine → Field
+abbrev pub field : LentSignalLine → SignalLine
 field f = record { name = f.name.now; start = f.start; size = f.size; factor = f.factor; offset = f.offset; unit = f.unit.now }
 
 abbrev pub statement : Line → Statement
@@ -20,11 +20,11 @@ statement lines.Version = Version
 statement (lines.Begins h) = Begins (heading h)
 statement (lines.Adds f) = Adds (field f)
 
-abbrev pub heading_view : Option HeadingLine → Option Heading
-heading_view found = option_map heading found
+abbrev pub message_line_view : Option LentMessageLine → Option MessageLine
+message_line_view found = option_map heading found
 
-abbrev pub line_view : Option FieldLine → Option Field
-line_view found = option_map field found
+abbrev pub signal_line_view : Option LentSignalLine → Option SignalLine
+signal_line_view found = option_map field found
 
 abbrev pub statement_view : Option Line → Option Statement
 statement_view found = option_map statement found

@@ -6,13 +6,13 @@ ghost use Rattle.dbc_grammar.specs.Statement.{signal_of};
 ghost use Rattle.dbc_grammar.specs.Lawful.{has_id, has_name};
 ghost use Rattle.dbc_grammar.specs.Views.{field as field_of};
 
-use crate::statement::Field;
+use crate::statement::SignalLine;
 use bench_model::{Coding, Message, Order, Scale, Signal, Text};
 use multiplex_tree::List;
 use std::alloc::{AllocError, Global};
 
 /// The signal of a line.
-pub fn signal(alloc: Global, field: &Field<'_>) -> Result<Signal, AllocError>
+pub fn signal(alloc: Global, field: &SignalLine<'_>) -> Result<Signal, AllocError>
     ensures { IfOk result (λ signal. signal ≡ signal_of (field_of field.now)) }
 {
     Ok(Signal {

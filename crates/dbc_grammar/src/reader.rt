@@ -5,7 +5,7 @@ ghost use Rattle.std.specs.List.{list_any};
 ghost use Rattle.std.specs.Option.{ForNone};
 
 use crate::model::{has_message, has_signal, signal};
-use crate::statement::{Field, Heading, Statement, statement_of};
+use crate::statement::{MessageLine, SignalLine, Statement, statement_of};
 use bench_model::{Key, Message, Signal, Text};
 use multiplex_tree::List;
 use std::alloc::{AllocError, Global};
@@ -123,7 +123,7 @@ impl Reader {
         Ok(closed)
     }
 
-    fn with_heading(self, alloc: Global, heading: Heading<'_>) -> Result<Reader, AllocError>
+    fn with_heading(self, alloc: Global, heading: MessageLine<'_>) -> Result<Reader, AllocError>
         ensures { IfOk result (λ reader. all_messages reader ≡ all_messages self ++ message_of (heading_of heading.entry) [] ∷ []) }
     {
         let name = Text::of(alloc, heading.name)?;
@@ -139,7 +139,7 @@ impl Reader {
         })
     }
 
-    fn with_field(self, alloc: Global, field: Field<'_>) -> Result<Reader, AllocError>
+    fn with_field(self, alloc: Global, field: SignalLine<'_>) -> Result<Reader, AllocError>
         ensures { IfOk result (λ reader. all_messages reader ≡ onto_last (signal_of (field_of field.entry)) (all_messages self)) }
     {
         let signal = signal(alloc, &field)?;
@@ -152,6 +152,7 @@ impl Reader {
                     last: Some(open),
                 })
             }
+            // A signal before any message is not lawful.
             None => Ok(Reader { closed, last: None }),
         }
     }

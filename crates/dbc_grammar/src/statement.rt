@@ -2,7 +2,7 @@
 
 ghost use Rattle.std.specs.Prelude.{◌≡◌};
 ghost use Rattle.dbc_grammar.specs.Reading.{heading_at, place_at, scaling_at, field_at, text_statement, statement_of};
-ghost use Rattle.dbc_grammar.specs.Views.{heading_view, place_view, scaling_view, line_view, statement_view};
+ghost use Rattle.dbc_grammar.specs.Views.{message_line_view, place_view, scaling_view, signal_line_view, statement_view};
 
 use crate::fields::{name_before, number_before, signed_before, unit_before};
 use crate::names::is_node;
@@ -10,7 +10,7 @@ use byte_forms::{Class, after_literal, run};
 
 /// A message's line.
 #[derive(Debug, Drop)]
-pub struct Heading<'a> {
+pub struct MessageLine<'a> {
     /// An identifier of 11 bits.
     pub id: u32,
     pub name: &'a [u8],
@@ -20,7 +20,7 @@ pub struct Heading<'a> {
 
 /// A signal's line.
 #[derive(Debug, Drop)]
-pub struct Field<'a> {
+pub struct SignalLine<'a> {
     pub name: &'a [u8],
     /// The place of the lowest bit.
     pub start: u32,
@@ -36,20 +36,20 @@ pub struct Field<'a> {
 pub enum Statement<'a> {
     Blank,
     Version,
-    Begins(Heading<'a>),
-    Adds(Field<'a>),
+    Begins(MessageLine<'a>),
+    Adds(SignalLine<'a>),
 }
 
 /// A message's line behind its first word.
 #[tactic(auto, unfolding(crate::specs::Reading::heading_at))]
-fn heading_at(text: &[u8]) -> Option<Heading<'_>>
-    ensures { heading_view result ≡ heading_at text.now }
+fn heading_at(text: &[u8]) -> Option<MessageLine<'_>>
+    ensures { message_line_view result ≡ heading_at text.now }
 {
     let (id, rest) = number_before(2047, b" ", text)?;
     let (name, rest) = name_before(b": ", rest)?;
     let (byte_count, node) = number_before(8, b" ", rest)?;
     if is_node(node) {
-        Some(Heading {
+        Some(MessageLine {
             id,
             name,
             byte_count,
@@ -87,15 +87,15 @@ fn scaling_at(text: &[u8]) -> Option<(i64, i64, &[u8])>
 
 /// A signal's line behind its first word.
 #[tactic(auto, unfolding(crate::specs::Reading::field_at))]
-fn field_at(text: &[u8]) -> Option<Field<'_>>
-    ensures { line_view result ≡ field_at text.now }
+fn field_at(text: &[u8]) -> Option<SignalLine<'_>>
+    ensures { signal_line_view result ≡ field_at text.now }
 {
     let (name, rest) = name_before(b" : ", text)?;
     let (start, size, rest) = place_at(rest)?;
     let (factor, offset, rest) = scaling_at(rest)?;
     let (unit, node) = unit_before(b"\" ", rest)?;
     if is_node(node) {
-        Some(Field {
+        Some(SignalLine {
             name,
             start,
             size,

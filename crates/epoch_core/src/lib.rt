@@ -1,7 +1,8 @@
 //! The machine of the regions, pure: one loader writes images into regions and publishes them, while lanes
-//! announce an epoch in their pins and read. It is epoch-based reclamation after Fraser, with one grace.
+//! announce an epoch in their pins and read. It is epoch-based reclamation after Fraser ("Practical lock-freedom", 2004): a
+//! region is written again only when no lane can still hold it.
 //!
-//! It stands on std alone and starts no thread. The store of the regions stands above it, and shows that each
+//! It stands on std alone and starts no thread. The store of the regions, which is to come, is to show that each
 //! of its atomic steps is the step of the same name here.
 //!
 //! Main theorem: after every list of steps, each of which the machine allowed, the region that a lane holds

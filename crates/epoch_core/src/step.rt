@@ -1,6 +1,8 @@
-//! The steps of the machine, each of which is one load or store of one word.
+//! The steps of the machine: each is one load or store of one word, or hands a seat on. A seat is the right to
+//! act as the loader or as one of the lanes.
 
-/// One atomic step: the first five and the last are a lane's, the others the loader's.
+/// One atomic step: the five of the letter L are a lane's, the four of the letter W the loader's, and in the last
+/// two a seat is handed on.
 #[derive(Clone, Copy, Debug, PartialEq, Eq)]
 pub enum Step {
     /// A lane loads the epoch.
@@ -42,9 +44,9 @@ pub enum Step {
         region: u32,
         lane: u32,
     },
-    /// A lane's seat is split off.
+    /// A lane's seat is split off from the others, to go to a worker of its own.
     S,
-    /// An idle lane's seat is joined.
+    /// An idle lane's seat is joined to the others again.
     J {
         lane: u32,
     },

@@ -1,10 +1,9 @@
 //! Decimals and scalings in whole numbers, exact to the last digit.
 //!
-//! A value that a test report quotes is the number that the database states, and never a rounding
-//! of it. This base crate reads the decimals of a database (`Decimal::read`), brings a factor and
+//! A value is the number that the database states, never a rounding of it. This base crate reads the decimals of a database (`Decimal::read`), brings a factor and
 //! an offset over one power of ten (`Scale::new`), applies them to a raw value (`Scale::apply`)
-//! and writes the outcome (`Exact::append`). It stands on std alone; the types of a bench, the
-//! readers of DBC and LDF text and the decoder stand on it.
+//! and writes the outcome (`Exact::append`). It stands on std and `thiserror`; no crate
+//! uses it yet. The model and the readers of DBC and LDF text are to.
 //!
 //! Main theorem: what `read` answers is the fraction that the text denotes over the least power of
 //! ten, what `apply` answers is `raw * factor + offset` over that power, and what `append` writes

@@ -8,7 +8,7 @@ ghost use Rattle.multiplex_tree.specs.Fault.{IsChainFault};
 use crate::{MuxFault, MuxWhy};
 use std::alloc::{AllocError, Global};
 
-/// How many parents may stand above a signal.
+/// How many parents may stand above a signal: a limit of this project.
 pub(crate) const MOST_PARENTS: usize = 8;
 
 /// The signal above one that may not be there.

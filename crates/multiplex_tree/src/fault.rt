@@ -2,7 +2,7 @@
 
 use thiserror::Error;
 
-/// Why a signal has no place in a tree of parents.
+/// Why a signal has no place in a tree of parents, numbered in the order of the rules.
 #[derive(Clone, Copy, Debug, PartialEq, Eq, Error)]
 pub enum MuxWhy {
     /// No signal is its parent, or the one that a link names is no multiplexor.
@@ -22,8 +22,10 @@ pub enum MuxWhy {
 /// The first fault of a message's signals, with the signal's place among them, or want of memory.
 #[derive(Clone, Copy, Debug, PartialEq, Eq, Error)]
 pub enum MuxFault {
+    /// The fault of a signal, which is named by its place from 0.
     #[error("signal {signal} has no place in a tree: {why}")]
     At { signal: usize, why: MuxWhy },
+    /// There was no memory for the tree.
     #[error("out of memory")]
     Memory,
 }

@@ -1,11 +1,12 @@
 //! Which signals of a message are active: extended multiplexing as the DBC format means it.
 //!
 //! A signal's mark says whether it selects others, a multiplexor, and in which group of values it stands; links
-//! (`SG_MUL_VAL_`) name a parent with ranges. The readers of database files hand both to `resolve` and keep the
-//! tree that it makes; the decoders ask `Tree::active`. The crate stands on no other of the repository.
+//! (`SG_MUL_VAL_`) name a parent with ranges. Readers of databases are to hand both to `resolve`, and decoders to ask
+//! `Tree::active`; so far the crates above use only `List`, a vector that contracts see as a list. The crate stands
+//! on std and `thiserror`.
 //!
-//! The theorem: `resolve` answers the tree of parents exactly where every signal's parent is clear and at most 8
-//! parents stand above each, else the first fault, unless memory runs out; and `Tree::active` says exactly
+//! The theorem: `resolve` answers the tree of parents exactly where each signal has a clear parent or none and at
+//! most 8 parents stand above it, else the first fault, unless memory runs out; and `Tree::active` says exactly
 //! whether every parent above a signal selects the one below it.
 #![tactic(auto)]
 

@@ -1,3 +1,4 @@
+-- A source in memory as the reader that it is.
 use Rattle.port_io.specs.MemoryReader.{MemoryReader}
 use Rattle.port_io.specs.Progress.{reader}
 use Rattle.port_io.specs.declared.memory_source.MemSource.{MemSource}

@@ -1,18 +1,18 @@
 //! The outside of the signal server as traits: a source gives bytes, a sink takes them, a library
-//! opens files by name. It stands on std and `thiserror` alone, and the crates that read logs,
-//! databases and wants and that write text stand on it.
+//! opens files by name. It stands on std and `thiserror` alone; `bench_server` reads files and writes
+//! text through it, and `sigserve` gives it the real ones.
 //!
 //! Each trait says which bytes a call moved and counts the calls that failed, so that what a layer
 //! above answers can be traced to the outside: a call answers `Failed` only where its object's
 //! count rose. Objects in memory tell their bytes, and fail exactly at the calls that their maker
-//! lists; files and streams of the system tell none.
+//! lists, for names that are missing, and where no room is left; files and streams of the system
+//! tell none.
 //!
-//! The main theorem: `read_whole` answers Ok with the named file's bytes and no others, `Open` and
-//! `Read` only where the library's own count of such faults rose, and `Long` exactly where more
+//! The main theorem: `read_whole` answers Ok, where the library tells its files, with the named
+//! file's bytes and no others, `Open` and `Read` only where the library's own count of such faults rose, and `Long` exactly where more
 //! than the limit was taken; want of memory alone is free.
 //!
-//! Links, doors and harbours have their place here: the other side that sources and sinks show is
-//! kept for them.
+//! The member `other` of sources and sinks is for the two ends of a connection, which are to come.
 #![tactic(auto)]
 
 mod counts;

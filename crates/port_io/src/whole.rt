@@ -116,7 +116,7 @@ pub fn read_whole<B: Library>(
     ensures unread { IsErrOf result WholeRefused.Open →
         B.more_faults library.new ≡ B.more_faults library.old }
 
-    // The file was begun once, and the answer is `Open` exactly where it could not be.
+    // The answer is `Open` exactly where no file is begun afterwards.
     ensures begun { (B.begun library.new ≡ false) ↔ IsErrOf result WholeRefused.Open }
     ensures strays { B.strays library.new
         ≡ strays_after (B.files library.old) name.now (B.strays library.old) }

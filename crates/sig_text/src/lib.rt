@@ -1,12 +1,12 @@
 //! The tokens of DBC and LDF text, and the content of their strings.
 //!
 //! A text is words, numbers, strings and signs, with white space between them and, where the format has them,
-//! comments. Both grammar readers stand on this crate, and it stands on no other of the repository: they read the
-//! list that `tokens` gives, and take the content of a string from `string_of`.
+//! comments. No crate uses this one yet; the readers of whole DBC and LDF text are to read the list that `tokens`
+//! gives, and to take the content of a string from `string_of`. It stands on std and `thiserror`.
 //!
 //! The theorem: `tokens` answers the list of longest tokens that the text is made of, or the first place at which
 //! there is none, exactly where the text has the one or the other, unless memory runs out; a text has at most one
-//! such list. What `string_of` makes is UTF-8.
+//! such list or one such place. What `string_of` makes is UTF-8.
 #![tactic(auto)]
 
 mod blank;
