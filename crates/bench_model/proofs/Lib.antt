@@ -3,3 +3,4 @@ pub mod Raws
 pub mod Scaling
 pub mod Found
 pub mod IntelWeights
+pub mod MotorolaPlaces

@@ -18,7 +18,7 @@ mod scale;
 mod text;
 
 pub use database::{Bench, Bus, Coding, Database, Entry, Key, Kind, Label, Message, Order, Signal};
-pub use laws::intel_weights;
+pub use laws::{intel_weights, motorola_places};
 pub use reading::{Ask, Body, CutCause, Item, Plain, Reading, SignalValue};
 pub use scale::{Exact, Scale};
 pub use text::Text;
