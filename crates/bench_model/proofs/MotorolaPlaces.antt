@@ -1,5 +1,5 @@
 -- A big-endian signal's bits follow one another in the order in which bytes are read, the most significant bit first.
-use Rattle.std.proofs.Common.{◌≡◌, ◌∙◌, ap, sym, ℕ, zero, suc, ◌+◌, ◌-◌, ◌*◌, ◌/◌, ◌%◌, ◌<◌, List, [], ◌∷◌, ◌++◌, map, refl, arith, Bool, true, false, eqb, cond, ◌≢◌}
+use Rattle.std.proofs.Common.{◌≡◌, ◌∙◌, ap, sym, ℕ, zero, suc, ◌+◌, ◌-◌, ◌%◌, List, [], ◌∷◌, ◌++◌, map, refl, arith, Bool, true, false, eqb, cond, ◌≢◌}
 use Rattle.std.proofs.lemmas.Bool.{eqb-true, eqb-false}
 use Rattle.bench_model.specs.declared.database.Order.TheVariants.{Motorola}
 use Rattle.bench_model.specs.Raw.{next_place, places_from, places}

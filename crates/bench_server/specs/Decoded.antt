@@ -1,5 +1,5 @@
 -- The decoded list of a log, and the text that the tool makes of it.
-use Rattle.std.specs.Prelude.{ℕ, ◌+◌, List, [], ◌∷◌, ◌++◌, length, flat_map, Option, Some, None}
+use Rattle.std.specs.Prelude.{ℕ, ◌+◌, List, [], ◌∷◌, ◌++◌, length, flat_map, Option, Some, None, map}
 use Rattle.bench_model.specs.declared.database.Bench.{Bench}
 use Rattle.bench_model.specs.declared.reading.Ask.TheVariants as ask
 use Rattle.bench_model.specs.declared.reading.Plain.{Plain}
@@ -39,8 +39,7 @@ start_items bus (reading ∷ readings) = item.Start bus 0 0 ∷ []
 
 -- the records as items
 abbrev pub reading_items : List Reading → List Item
-reading_items [] = []
-reading_items (reading ∷ readings) = item.Reading reading ∷ reading_items readings
+reading_items readings = map (λ reading. item.Reading reading) readings
 
 -- the items of a bus whose log was read whole
 abbrev pub bus_items : ℕ → List Reading → List Item
