@@ -9,8 +9,8 @@ use Rattle.bench_server.specs.BenchFile.{BusFiles}
 use Rattle.bench_server.specs.Decoded.{bus_text}
 use Rattle.bench_server.specs.Tool.{Files, HasDatabase, HasText, bench_of}
 use Rattle.bench_server.specs.Writing.{AppendsPrefix, WritesText}
-use Rattle.bench_server.specs.Ends.{EndsBus}
-use Rattle.bench_server.specs.BusEnds.{ReadsDatabase, ReadsLog, status_of, stands}
+use Rattle.bench_server.specs.Ends.{EndsBus, stands}
+use Rattle.bench_server.specs.BusEnds.{ReadsDatabase, ReadsLog, status_of}
 
 -- the files of a bus give its text
 pub has_text : (files later : Option Files) (bus : BusFiles) (database : Database) (frames : List Frame) → later ≡ files →

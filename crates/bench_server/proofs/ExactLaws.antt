@@ -3,8 +3,7 @@ use Rattle.std.proofs.Common.{◌≡◌, ℕ, List, Option, Some, None, refl}
 use Rattle.bench_server.specs.declared.status.Status.{Status}
 use Rattle.bench_server.specs.declared.status.Status.TheVariants as status
 use Rattle.bench_server.specs.Tool.{Files, IsToolText, IsRefused}
-use Rattle.bench_server.specs.Ends.{Stands}
-use Rattle.bench_server.specs.BusEnds.{stands}
+use Rattle.bench_server.specs.Ends.{Stands, stands}
 use Rattle.bench_server.specs.ToolEnds.{EndsTool, AnswersRefusal, AnswersText, AnswersExactly}
 use Rattle.bench_server.proofs.OneEnd.{one_refusal, text_or_refusal}
 

@@ -10,8 +10,8 @@ use Rattle.bench_server.specs.declared.status.Status.TheVariants as status
 use Rattle.bench_server.specs.BenchFile.{BusFiles, IsBench, IsBenchFault}
 use Rattle.bench_server.specs.Tool.{Files, file_limit, HasBench, HasDatabase, HasText, IsToolText, IsFileRefused, IsRefused}
 use Rattle.bench_server.specs.Writing.{AppendsPrefix}
-use Rattle.bench_server.specs.Ends.{Counts, FailsToRead, EndsBus}
-use Rattle.bench_server.specs.BusEnds.{stands, AreLogsOf, ReadsDatabase, HasFilesInTurn, HasBusFiles}
+use Rattle.bench_server.specs.Ends.{CountChange, FailsToRead, EndsBus, stands}
+use Rattle.bench_server.specs.BusEnds.{AreLogsOf, ReadsDatabase, HasFilesInTurn, HasBusFiles}
 use Rattle.bench_server.specs.FaultLine.{fault_line, Reports}
 use Rattle.bench_server.specs.ToolEnds.{EndsTool, NamesBus, ReportsTool, AreToolLogs, HasToolFiles}
 
@@ -112,7 +112,7 @@ reports_tool files bench bus before now f g status.Memory b h = h
 reports_tool files bench bus before now f g (status.NotBuilt n l) b h = h
 
 -- the line of a status that a failed reading of file 0 gives
-pub reports_read : (files : Option Files) (bench : List ℕ) (o m : Counts) (before now : Option (List ℕ)) (f g : ℕ) (s : Status) → FailsToRead files bench 0 o m s →
+pub reports_read : (files : Option Files) (bench : List ℕ) (o m : CountChange) (before now : Option (List ℕ)) (f g : ℕ) (s : Status) → FailsToRead files bench 0 o m s →
     Reports before now f g (fault_line [] s) → ReportsTool files bench before now f g s
 reports_read files bench o m before now f g (status.ReadFault (Some n)) b h = absurd b
 reports_read files bench o m before now f g (status.ReadFault None) b h = h

@@ -11,14 +11,14 @@ use Rattle.byte_forms.specs.Lines.{all_lines}
 use Rattle.bench_server.specs.declared.log_file.Frame.{Frame}
 use Rattle.bench_server.specs.BenchFile.{BusFiles}
 use Rattle.bench_server.specs.LogFile.{IsLogFault}
-use Rattle.bench_server.specs.Ends.{Counts, Stands}
+use Rattle.bench_server.specs.Ends.{CountChange}
 
 -- the file of this name is there and spells this database
 abbrev pub ReadsDatabase : Files → List ℕ → Database → Type 0
 ReadsDatabase files name database = (bytes : List ℕ) × (named files name ≡ Some bytes) × SpellsDatabase bytes database
 
 -- the file of this name gave no database: it is refused, or one of the library's counts rose
-abbrev pub FailsAsDatabase : Option Files → List ℕ → Counts → Counts → Status → Type 0
+abbrev pub FailsAsDatabase : Option Files → List ℕ → CountChange → CountChange → Status → Type 0
 FailsAsDatabase files name opens reads (status.NotBuilt n line) =
     (n ≡ 1) × IfSome files (λ fs. (bytes : List ℕ) × (named fs name ≡ Some bytes) × IsRefusedAt bytes line)
 FailsAsDatabase files name opens reads status.OpenFault = Rose opens.before opens.now
@@ -34,7 +34,7 @@ abbrev pub ReadsLog : Files → List ℕ → List Frame → Type 0
 ReadsLog files name frames = (bytes : List ℕ) × (named files name ≡ Some bytes) × SpellsLog bytes frames
 
 -- the log of this name gave no frames: it is refused, the library's count rose, or the log's own
-abbrev pub FailsAsOpened : Option Files → List ℕ → Counts → Type 0 → Status → Type 0
+abbrev pub FailsAsOpened : Option Files → List ℕ → CountChange → Type 0 → Status → Type 0
 FailsAsOpened files name opens failed (status.NotBuilt n line) =
     (n ≡ 2) × IfSome files (λ fs. (bytes : List ℕ) × (named fs name ≡ Some bytes) × RefusedAt bytes line (IsLogFault (all_lines bytes)))
 FailsAsOpened files name opens failed status.OpenFault = Rose opens.before opens.now
@@ -72,17 +72,6 @@ AreRead ended logs other = Unit {0}
 abbrev pub status_of : Result (Unit {0}) Status → Status
 status_of (Ok u) = status.Ok
 status_of (Err s) = s
-
--- what stands before and after, in the order files, opens, reads, writes, written
-abbrev pub stands : Option Files → ℕ → ℕ → ℕ → ℕ → ℕ → ℕ → Option (List ℕ) → Option (List ℕ) → Stands
-stands files opens opens_now reads reads_now writes writes_now before now = record {
-  files = files;
-  opens = record { before = opens; now = opens_now };
-  reads = record { before = reads; now = reads_now };
-  writes = record { before = writes; now = writes_now };
-  before = before;
-  now = now;
-}
 
 -- the bus's database is there, and where it is lawful, the log is
 abbrev pub HasFilesInTurn : Files → BusFiles → Type 0

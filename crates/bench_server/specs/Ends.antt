@@ -13,12 +13,12 @@ use Rattle.bench_server.specs.Tool.{Files, file_limit, RefusedAt, HasDatabase, H
 use Rattle.bench_server.specs.Writing.{AppendsPrefix}
 
 -- a count of faults before and after a call
-pub record Counts : Type 0 where
+pub record CountChange : Type 0 where
   pub before : ℕ
   pub now : ℕ
 
 -- a file of this number was not read whole: it is too long, or one of the library's counts rose
-abbrev pub FailsToRead : Option Files → List ℕ → ℕ → Counts → Counts → Status → Type 0
+abbrev pub FailsToRead : Option Files → List ℕ → ℕ → CountChange → CountChange → Status → Type 0
 FailsToRead files name file opens reads (status.NotBuilt n line) =
     (n ≡ file) × (line ≡ 0) × IfSome files (λ fs. (bytes : List ℕ) × (named fs name ≡ Some bytes) × (file_limit < length bytes))
 FailsToRead files name file opens reads status.OpenFault = Rose opens.before opens.now
@@ -30,7 +30,7 @@ FailsToRead files name file opens reads status.Usage = ⊥
 FailsToRead files name file opens reads status.WriteFault = ⊥
 
 -- a log whose bytes left are these gave no frames: it is refused, or the log's count rose
-abbrev pub FailsAsLog : Option (List ℕ) → Counts → Status → Type 0
+abbrev pub FailsAsLog : Option (List ℕ) → CountChange → Status → Type 0
 FailsAsLog left reads (status.NotBuilt n line) = (n ≡ 2) × IfSome left (λ bytes. RefusedAt bytes line (IsLogFault (all_lines bytes)))
 FailsAsLog left reads (status.ReadFault (Some bus)) = (bus ≡ 0) × Rose reads.before reads.now
 FailsAsLog left reads (status.ReadFault None) = ⊥
@@ -45,12 +45,23 @@ pub record Stands : Type 0 where
   -- the library's files, where they are told
   pub files : Option Files
   -- the library's counts of failed opens and of failed reads, and the output's of failed writes
-  pub opens : Counts
-  pub reads : Counts
-  pub writes : Counts
+  pub opens : CountChange
+  pub reads : CountChange
+  pub writes : CountChange
   -- what was written to the output, where it is told
   pub before : Option (List ℕ)
   pub now : Option (List ℕ)
+
+-- the same by its parts, in the order files, opens, reads, writes, written
+abbrev pub stands : Option Files → ℕ → ℕ → ℕ → ℕ → ℕ → ℕ → Option (List ℕ) → Option (List ℕ) → Stands
+stands files opens opens_now reads reads_now writes writes_now before now = record {
+  files = files;
+  opens = record { before = opens; now = opens_now };
+  reads = record { before = reads; now = reads_now };
+  writes = record { before = writes; now = writes_now };
+  before = before;
+  now = now;
+}
 
 -- the first log's count of faults is above 0
 abbrev pub HasFailed : {S : Type 0} → (S → ℕ) → List S → Type 0

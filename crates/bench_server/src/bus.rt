@@ -8,8 +8,8 @@ ghost use Rattle.bench_server.specs.BenchFile.{is_file_name, IsLawfulBus};
 ghost use Rattle.bench_server.specs.BenchView.{files_of};
 ghost use Rattle.bench_server.specs.WholeBench.{IsWholeBench};
 ghost use Rattle.bench_server.specs.Tool.{bench_of};
-ghost use Rattle.bench_server.specs.BusEnds.{ReadsDatabase, FailsAsDatabase, ReadsLog, FailsAsOpened, AreLogsOf, AreRead, status_of, stands, HasBusFiles};
-ghost use Rattle.bench_server.specs.Ends.{HasFailed, EndsBus};
+ghost use Rattle.bench_server.specs.BusEnds.{ReadsDatabase, FailsAsDatabase, ReadsLog, FailsAsOpened, AreLogsOf, AreRead, status_of, HasBusFiles};
+ghost use Rattle.bench_server.specs.Ends.{HasFailed, EndsBus, stands};
 ghost use Rattle.bench_server.specs.ToolEnds.{HasOpened};
 
 use crate::Status;

@@ -3,9 +3,9 @@
 ghost use Rattle.std.specs.Prelude.{◌≡◌, ◌⊎◌, ◌≤◌, [], Some, length, vec_len};
 ghost use Rattle.bench_server.specs.Words.{bench_word};
 ghost use Rattle.bench_server.specs.WordView.{words_of};
-ghost use Rattle.bench_server.specs.BusEnds.{AreRead, stands, status_of};
+ghost use Rattle.bench_server.specs.BusEnds.{AreRead, status_of};
 ghost use Rattle.bench_server.specs.ToolEnds.{EndsTool, ReportsTool, AreToolLogs, HasToolFiles, ReportsLine, AreWordLogs, HasWordFiles, AnswersExactly, HasOpened};
-ghost use Rattle.bench_server.specs.Ends.{HasFailed};
+ghost use Rattle.bench_server.specs.Ends.{HasFailed, stands};
 ghost use Rattle.bench_server.specs.FaultLine.{fault_line, Reports};
 
 use crate::Status;

@@ -3,8 +3,7 @@ use Rattle.byte_forms.specs.Lines.{all_lines}
 use Rattle.bench_server.specs.declared.status.Status.{Status}
 use Rattle.bench_server.specs.BenchFile.{IsBench}
 use Rattle.bench_server.specs.BenchView.{files_of}
-use Rattle.bench_server.specs.Ends.{HasFailed}
-use Rattle.bench_server.specs.BusEnds.{stands}
+use Rattle.bench_server.specs.Ends.{HasFailed, stands}
 use Rattle.bench_server.specs.ToolEnds.{EndsTool}
 use Rattle.bench_server.proofs.ToolLaws.{has_bench, ends_tool, not_astray, bus_files}
 use Rattle.bench_server.proofs.tool.run.Goals as goal
