@@ -141,8 +141,7 @@ pub fn run_tool<B: Library, K: Sink, E: Sink>(
     ensures line { ReportsLine (B.files library.old) (bench_word (words_of words.now)) (E.written err.old) (E.written err.new) (E.write_faults err.old) (E.write_faults err.new) result.status }
 
     // The logs that were opened stand as they were left: read to the end where all was read, and handed back
-    // whenever something was written. No missing file was asked for where the one
-    // before it is refused.
+    // whenever something was written. No missing file was asked for where the one before it is refused.
     ensures logs { AreWordLogs (B.files library.old) (bench_word (words_of words.now)) B.Log.left B.Log.taken result.logs }
     ensures opened { HasOpened (length result.logs) result.status }
     ensures ended { AreRead B.Log.ended result.logs result.status }
