@@ -1,6 +1,7 @@
-pub mod ClaimLemmas
-pub mod ParentLemmas
-pub mod ChainLemmas
-pub mod ActivityLemmas
-pub mod UniqueLemmas
-pub mod ExistenceLemmas
+pub mod ClaimLaws
+pub mod ParentLaws
+pub mod ChainLaws
+pub mod ActivityLaws
+pub mod UniqueLaws
+pub mod ExistenceLaws
+pub mod TreeLaws

@@ -4,6 +4,7 @@ use Rattle.std.specs.Option.{option_flatten}
 use Rattle.std.specs.List.{list_any}
 use Rattle.multiplex_tree.specs.declared.mark.Range.{Range}
 use Rattle.multiplex_tree.specs.declared.mark.Parent.{Parent}
+use Rattle.multiplex_tree.specs.Chain.{most_parents}
 
 -- whether a raw value lies in a range, its ends included
 abbrev pub is_in_range : ℤ → Range → Bool
@@ -38,6 +39,6 @@ unfoldable pub is_active_within : ℕ → List (Option Parent) → List (Option 
 is_active_within zero parents raws i = is_none (parent_at parents i)
 is_active_within (suc n) parents raws i = is_active_below raws (is_active_within n parents raws) (parent_at parents i)
 
--- the same as a test, for signals with at most 8 parents above them
+-- the same as a test, for signals with no more parents above them than there may be
 abbrev pub is_active : List (Option Parent) → List (Option ℤ) → ℕ → Bool
-is_active parents raws i = is_active_within 8 parents raws i
+is_active parents raws i = is_active_within most_parents parents raws i

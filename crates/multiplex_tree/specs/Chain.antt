@@ -1,5 +1,5 @@
 -- Chains of parents, over the list that has each signal's parent, where it has one.
-use Rattle.std.specs.Prelude.{◌≡◌, ℕ, zero, suc, List, map, Option, Some, None, IsSome, IsNone, slice_get}
+use Rattle.std.specs.Prelude.{◌≡◌, ℕ, ◌+◌, zero, suc, List, map, Option, Some, None, IsSome, IsNone, slice_get}
 use Rattle.std.specs.Option.{option_flatten, option_map}
 use Rattle.multiplex_tree.specs.declared.mark.Parent.{Parent}
 
@@ -30,10 +30,14 @@ pub data Ends (ups : List (Option ℕ)) : ℕ → Type 0 where
 abbrev pub NeverEnds : List (Option ℕ) → ℕ → Type 0
 NeverEnds ups i = ¬ Ends ups i
 
--- more than 8 parents stand above the signal
-abbrev pub IsDeep : List (Option ℕ) → ℕ → Type 0
-IsDeep ups i = IsSome (ancestor ups 9 i)
+-- how many parents may stand above a signal: a limit of this project
+abbrev pub most_parents : ℕ
+most_parents = 8
 
--- at most 8 parents stand above each signal
+-- more parents than that stand above the signal
+abbrev pub IsDeep : List (Option ℕ) → ℕ → Type 0
+IsDeep ups i = IsSome (ancestor ups (most_parents + 1) i)
+
+-- at most so many parents stand above each signal
 abbrev pub IsShallow : List (Option ℕ) → Type 0
-IsShallow ups = (i : ℕ) → IsNone (ancestor ups 9 i)
+IsShallow ups = (i : ℕ) → IsNone (ancestor ups (most_parents + 1) i)

@@ -76,11 +76,11 @@ grouped_parent marks links (Some n) = some_parent (linked_parent marks n links)
 abbrev pub group_at : List Mark → ℕ → Option ℕ
 group_at marks i = option_and_then (λ m. m.group) (slice_get marks i)
 
--- the parent of a signal, where it has one; or why it has no clear one
+-- the parent of a signal, where it has one; or why it has not one
 abbrev pub parent_by_rules : List Mark → List Link → ℕ → Result (Option Parent) MuxWhy
 parent_by_rules marks links i = grouped_parent marks (links_to i links) (group_at marks i)
 
--- each signal has a clear parent or none, and these are they
+-- each signal has one parent or none, and these are they
 pub record AreParents (marks : List Mark) (links : List Link) (parents : List (Option Parent)) : Type 0 where
   pub number : length parents ≡ length marks
   pub each : (i : ℕ) → i < length marks → parent_by_rules marks links i ≡ Ok (slice_index_or parents i None)

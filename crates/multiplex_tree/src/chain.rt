@@ -1,7 +1,7 @@
 //! Chains of parents: how many signals stand above each, and whether their chain ends.
 
-ghost use Rattle.std.specs.Prelude.{◌≡◌, ℕ, map, IfOk, IfErr, OnOk, MatchOption, IsNone, length};
-ghost use Rattle.multiplex_tree.specs.Chain.{parent_in, next_up, ancestor, IsShallow};
+ghost use Rattle.std.specs.Prelude.{◌≡◌, ◌+◌, ℕ, map, IfOk, IfErr, OnOk, MatchOption, IsNone, length};
+ghost use Rattle.multiplex_tree.specs.Chain.{most_parents, parent_in, next_up, ancestor, IsShallow};
 ghost use Rattle.multiplex_tree.specs.FarAbove.{IsFirstSome, AreFarAbove};
 ghost use Rattle.multiplex_tree.specs.Fault.{IsChainFault};
 
@@ -29,9 +29,9 @@ fn nth_above(parents: &[Option<usize>], count: usize, signal: usize) -> Option<u
     place
 }
 
-/// The first signal with more than 8 parents above it.
+/// The first signal with too many parents above it.
 fn first_deep(parents: &[Option<usize>]) -> Option<usize>
-    ensures { MatchOption result (IsShallow parents.now) (IsFirstSome (length parents.now) (ancestor parents.now 9)) }
+    ensures { MatchOption result (IsShallow parents.now) (IsFirstSome (length parents.now) (ancestor parents.now (most_parents + 1))) }
 {
     for signal in 0..parents.len() {
         if nth_above(parents, MOST_PARENTS + 1, signal).is_some() {
@@ -75,7 +75,7 @@ fn far_above(alloc: Global, parents: &[Option<usize>]) -> Result<Vec<Option<usiz
     Ok(farthest)
 }
 
-/// Whether each chain of parents ends after at most 8, or the first one that never ends, or else the first that
+/// Whether each chain of parents ends within the limit, or the first one that never ends, or else the first that
 /// is longer.
 pub(crate) fn check_chains(alloc: Global, parents: &[Option<usize>]) -> Result<(), MuxFault>
     ensures ok { OnOk result (IsShallow parents.now) }

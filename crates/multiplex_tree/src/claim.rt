@@ -26,7 +26,7 @@ pub(crate) enum Claim {
 
 impl Claim {
     /// What the links say together once `link` comes after those before it.
-    fn joined(self, alloc: Global, link: &Link) -> Result<Claim, AllocError>
+    fn join(self, alloc: Global, link: &Link) -> Result<Claim, AllocError>
         ensures { IfOk result (λ claim. (links : List Link) → self ≡ claim_of links → claim ≡ claim_of (links ++ link.now ∷ [])) }
     {
         match self {
@@ -38,7 +38,7 @@ impl Claim {
                 if parent == link.parent {
                     Ok(Claim::Linked {
                         parent,
-                        ranges: ranges.joined(link.ranges.items())?,
+                        ranges: ranges.append(link.ranges.items())?,
                     })
                 } else {
                     Ok(Claim::Divided)
@@ -74,7 +74,7 @@ pub(crate) fn claims_of(
     let mut claims = unlinked(alloc, count)?;
     for link in links {
         let before = mem::replace(&mut claims[link.child], Claim::Unlinked);
-        claims[link.child] = before.joined(alloc, link)?;
+        claims[link.child] = before.join(alloc, link)?;
     }
     Ok(claims)
 }

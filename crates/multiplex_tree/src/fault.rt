@@ -19,7 +19,7 @@ pub enum MuxWhy {
     Deep = 4,
 }
 
-/// The first fault of a message's signals, with the signal's place among them, or want of memory.
+/// The first fault of a message's signals, with the signal's place among them, or out of memory.
 #[derive(Clone, Copy, Debug, PartialEq, Eq, Error)]
 pub enum MuxFault {
     /// The fault of a signal, which is named by its place from 0.

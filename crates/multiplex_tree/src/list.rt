@@ -48,7 +48,7 @@ impl<T: Copy> List<T> {
     }
 
     /// The list with these values after its own.
-    pub(crate) fn joined(self, more: &[T]) -> Result<List<T>, AllocError>
+    pub(crate) fn append(self, more: &[T]) -> Result<List<T>, AllocError>
         ensures { IfOk result (λ list. list ≡ self ++ more.now) }
     {
         let List { mut items } = self;

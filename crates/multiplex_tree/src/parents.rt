@@ -96,7 +96,7 @@ fn parent_of(
     }
 }
 
-/// The parent of each signal, or the first signal that has no clear one.
+/// The parent of each signal, or the first signal whose parent is missing or ambiguous.
 pub(crate) fn parents_of(
     alloc: Global,
     marks: &[Mark],

@@ -5,11 +5,10 @@ ghost use Rattle.std.specs.List.{list_any};
 ghost use Rattle.std.specs.Option.{option_copied, option_flatten};
 ghost use Rattle.multiplex_tree.specs.declared.fault.MuxWhy.{MuxWhy};
 ghost use Rattle.multiplex_tree.specs.declared.fault.MuxFault.TheVariants.{At};
-ghost use Rattle.multiplex_tree.specs.declared.mark.Mark.{Mark};
-ghost use Rattle.multiplex_tree.specs.declared.mark.Link.{Link};
 ghost use Rattle.multiplex_tree.specs.declared.mark.Parent.{Parent};
 ghost use Rattle.multiplex_tree.specs.Chain.{signals_above, IsShallow};
 ghost use Rattle.multiplex_tree.specs.Fault.{IsTree, IsFault};
+ghost use Rattle.multiplex_tree.specs.Trees.{IsTreeOver};
 ghost use Rattle.multiplex_tree.specs.Activity.{is_in_range, parent_at, selects, is_active, IsActive};
 
 use crate::chain::{MOST_PARENTS, check_chains};
@@ -50,12 +49,12 @@ fn tree_of(alloc: Global, marks: &[Mark], links: &[Link]) -> Result<Tree, MuxFau
     })
 }
 
-/// The tree of parents that marks and links make, where each signal has a clear parent or none and at most 8
+/// The tree of parents that marks and links make, where each signal has one parent or none and at most 8
 /// parents stand above it. A signal without group has no parent. Links to the others name their parent, which
 /// has to be one multiplexor; without links it is the one multiplexor without group, with that group's value.
 ///
-/// The fault is the first signal without a clear parent (`NoParent`, `Ambiguous`), else the first whose chain of
-/// parents never ends (`Cycle`), else the first with more than 8 parents above it (`Deep`); or want of memory.
+/// The fault is the first signal whose parent is missing or not one (`NoParent`, `Ambiguous`), else the first whose
+/// chain of parents never ends (`Cycle`), else the first with more than 8 parents above it (`Deep`); or out of memory.
 /// `marks` has a mark for each signal, and each link's child is one of them.
 pub fn resolve(alloc: Global, marks: &[Mark], links: &[Link]) -> Result<Tree, MuxFault>
     requires { All (λ l. l.child < length marks.now) links.now }
@@ -63,6 +62,9 @@ pub fn resolve(alloc: Global, marks: &[Mark], links: &[Link]) -> Result<Tree, Mu
     // What is answered is true of the marks and links.
     ensures tree { IfOk result (λ tree. IsTree marks.now links.now tree.parents) }
     ensures fault { IfErr result (IsFault marks.now links.now) }
+
+    // Whatever the marks and links are, each parent is one of the signals, and no more stand above one than may.
+    ensures over { IfOk result (λ tree. IsTreeOver (length marks.now) tree.parents) }
 
     // What is true of them is answered, unless memory runs out.
     ensures every_tree { (parents : List (Option Parent)) → IsTree marks.now links.now parents →
@@ -72,18 +74,6 @@ pub fn resolve(alloc: Global, marks: &[Mark], links: &[Link]) -> Result<Tree, Mu
 {
     tree_of(alloc, marks, links)
 }
-
-/// Marks and links have a tree or a fault, only one of both, and only one.
-pub fn resolution_is_unique()
-    ensures some { (marks : List Mark) (links : List Link) →
-        ((t : List (Option Parent)) × IsTree marks links t) ⊎ ((s : ℕ) × (why : MuxWhy) × IsFault marks links (At s why)) }
-    ensures tree { (marks : List Mark) (links : List Link) (a b : List (Option Parent)) →
-        IsTree marks links a → IsTree marks links b → a ≡ b }
-    ensures fault { (marks : List Mark) (links : List Link) (s t : ℕ) (why because : MuxWhy) →
-        IsFault marks links (At s why) → IsFault marks links (At t because) → (s ≡ t) × (why ≡ because) }
-    ensures never_both { (marks : List Mark) (links : List Link) (a : List (Option Parent)) (s : ℕ) (why : MuxWhy) →
-        IsTree marks links a → ¬ IsFault marks links (At s why) }
-{}
 
 /// Whether a raw value lies in a range.
 fn lies_in(raw: i128, range: &Range) -> bool
@@ -120,7 +110,7 @@ fn parent_above(parents: &[Option<Parent>], signal: usize) -> Option<&Parent>
     parents.get(signal)?.as_ref()
 }
 
-/// Whether each parent on the way up from a signal, at most 8, selects the signal below it.
+/// Whether each parent on the way up from a signal, at most as many as there may be, selects the signal below it.
 fn is_selected(parents: &[Option<Parent>], raws: &[Option<i128>], signal: usize) -> bool
     requires { IsShallow (signals_above parents.now) }
     ensures { result ≡ is_active parents.now raws.now signal }
@@ -135,7 +125,7 @@ fn is_selected(parents: &[Option<Parent>], raws: &[Option<i128>], signal: usize)
         }
         place = parent.signal;
     }
-    // After 8 parents there is none.
+    // After so many parents there is none.
     true
 }
 

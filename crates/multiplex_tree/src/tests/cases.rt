@@ -268,7 +268,7 @@ pub(super) const CASES: [Case; 44] = [
         raws: &[],
         answer: "Cycle 0",
     },
-    // Eight parents are lawful, nine are not; a break leaves those above it active.
+    // Eight parents may be, nine may not; a break leaves those above it active.
     Case {
         marks: &[M, M1M, M1M, M1M, M1M, M1M, M1M, M1M, M1M],
         links: &[
@@ -377,7 +377,7 @@ pub(super) const CASES: [Case; 44] = [
         raws: &[],
         answer: "Deep 0",
     },
-    // The order of the faults: no clear parent, then a circle, then depth; and the first signal of each.
+    // The order of the faults: no parent or several, then a circle, then depth; and the first signal of each.
     Case {
         marks: &[M, M1M, M1M, M1M, M1M, M1M, M1M, M1M, M1M, M1M, M1],
         links: &[

@@ -1,4 +1,4 @@
-use Rattle.multiplex_tree.proofs.ChainLemmas.{first_cycle, all_end}
+use Rattle.multiplex_tree.proofs.ChainLaws.{first_cycle, all_end}
 use Rattle.multiplex_tree.proofs.chain.check_chains.Goals as goal
 
 pub returns-in-Some-first_with-clause-fault : goal.returns-in-Some-first_with-clause-fault

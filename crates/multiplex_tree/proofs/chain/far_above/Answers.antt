@@ -1,6 +1,6 @@
 use Rattle.std.proofs.Common.{ap, ◌∙◌, map, List, Option, ℕ, ◌*◌, arith}
 use Rattle.multiplex_tree.specs.Chain.{next_up}
-use Rattle.multiplex_tree.proofs.ChainLemmas.{ancestors-one, ancestors-twice}
+use Rattle.multiplex_tree.proofs.ChainLaws.{ancestors-one, ancestors-twice}
 use Rattle.multiplex_tree.proofs.chain.far_above.Goals as goal
 
 pub loop-steps-init : goal.loop-steps-init

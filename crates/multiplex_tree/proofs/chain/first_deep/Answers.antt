@@ -1,7 +1,7 @@
 use Rattle.std.proofs.Common.{length, arith}
 use Rattle.std.proofs.lemmas.Bool.Decides.{leb_tells}
 use Rattle.std.proofs.Common.{inl, inr}
-use Rattle.multiplex_tree.proofs.ChainLemmas.{none_past}
+use Rattle.multiplex_tree.proofs.ChainLaws.{none_past}
 use Rattle.multiplex_tree.proofs.chain.first_deep.Goals as goal
 
 pub returns : goal.returns

@@ -1,5 +1,5 @@
 use Rattle.std.proofs.Common.{arith}
-use Rattle.multiplex_tree.proofs.ClaimLemmas.{unlinked-append}
+use Rattle.multiplex_tree.proofs.ClaimLaws.{unlinked-append}
 use Rattle.multiplex_tree.proofs.claim.unlinked.Goals as goal
 
 pub loop-preserved : goal.loop-preserved

@@ -1,5 +1,5 @@
 use Rattle.std.proofs.Common.{◌≢◌, get_or-set_other, refl, ◌∙◌, arith}
-use Rattle.multiplex_tree.proofs.ParentLemmas.{rule_here, fault_of_unclear, parents-more, length-more}
+use Rattle.multiplex_tree.proofs.ParentLaws.{rule_here, fault_of_unresolved, parents-more, length-more}
 use Rattle.std.proofs.Math.ListN.{length-set}
 use Rattle.multiplex_tree.proofs.parents.parents_of.Goals as goal
 
@@ -8,9 +8,9 @@ returns-in-Ok-Err-clause-fault c =
     let here = rule_here c.args.marks.now c.args.links.now c.loop-signal.claims.items c.loop-signal.signal _ _ c.replace-claim.result _
     c.loop-signal-test.true (omega arith) (c.replace-claim.ensures.value ∙ c.index_mut.ensures.value) (c.loop-signal.invariant.left _ (omega arith))
     c.in-Ok-Err.ensures in
-    fault_of_unclear _ _ _ _ (record {
+    fault_of_unresolved _ _ _ _ (record {
       within = c.loop-signal-test.true;
-      unclear = here ∙ c.in-Ok-Err.field-0-is;
+      unresolved = here ∙ c.in-Ok-Err.field-0-is;
       first = λ i h. rw (c.loop-signal.invariant.each i h) refl;
     })
 

@@ -1,7 +1,7 @@
 use Rattle.std.proofs.Common.{◌∙◌, ◌++◌, ap, sym, List, ℕ}
 use Rattle.std.specs.Option.{option_to_list}
 use Rattle.multiplex_tree.specs.Parents.{only}
-use Rattle.multiplex_tree.proofs.ParentLemmas.{selectors-here, selectors-past, selectors-end, first_selector, two_selectors, one_selector}
+use Rattle.multiplex_tree.proofs.ParentLaws.{selectors-here, selectors-past, selectors-end, first_selector, two_selectors, one_selector}
 use Rattle.multiplex_tree.proofs.parents.selector_of.Goals as goal
 use Rattle.multiplex_tree.proofs.parents.selector_of.Goals.{then-is_top_selector+else-is_some, else-is_top_selector}
 

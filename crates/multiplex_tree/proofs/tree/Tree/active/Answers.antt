@@ -1,7 +1,7 @@
 use Rattle.std.proofs.Common.{◌∙◌, ap, List, Option}
 use Rattle.multiplex_tree.specs.declared.mark.Parent.{Parent}
 use Rattle.multiplex_tree.specs.Activity.{is_active}
-use Rattle.multiplex_tree.proofs.ActivityLemmas.{test_is_relation}
+use Rattle.multiplex_tree.proofs.ActivityLaws.{test_is_relation}
 use Rattle.multiplex_tree.proofs.tree.Tree.active.Goals as goal
 
 pub returns-clause-relation : goal.returns-clause-relation

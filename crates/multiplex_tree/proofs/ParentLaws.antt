@@ -17,7 +17,7 @@ use Rattle.multiplex_tree.specs.declared.mark.Parent.{Parent}
 use Rattle.multiplex_tree.specs.declared.mark.Range.{Range}
 use Rattle.multiplex_tree.specs.Parents.{is_selector, selectors_from, only, parent_of_group, named_parent, some_parent, grouped_parent, is_same_parent, group_at, parent_by_rules, links_to}
 use Rattle.multiplex_tree.specs.Claims.{claim_of, claimed_parent, marked_parent}
-use Rattle.multiplex_tree.specs.Fault.{IsFirstUnclear, IsFault}
+use Rattle.multiplex_tree.specs.Fault.{IsFirstUnresolved, IsFault}
 
 -- the selectors from a mark on
 pub selectors-here : (marks : List Mark) (at : ℕ) (d : Mark) → at < length marks → is_selector (get_or marks at d) ≡ true →
@@ -65,18 +65,18 @@ group_at-get_or [] i d h = absurd (omega arith)
 group_at-get_or (m ∷ ms) zero d h = refl
 group_at-get_or (m ∷ ms) (suc i) d h = group_at-get_or ms i d (omega arith)
 
-told : (marks : List Mark) (n : ℕ) (parent : Option ℕ) (ranges : List Range) (same : Bool) →
+claim_parent : (marks : List Mark) (n : ℕ) (parent : Option ℕ) (ranges : List Range) (same : Bool) →
     some_parent (claimed_parent marks n (if same then Linked parent ranges else Divided))
     ≡ some_parent (if same then named_parent marks parent ranges else Err Ambiguous)
-told marks n parent ranges true = refl
-told marks n parent ranges false = refl
+claim_parent marks n parent ranges true = refl
+claim_parent marks n parent ranges false = refl
 
 -- what the code keeps of the links to a signal tells its parent as the links do
 pub claim_tells : (marks : List Mark) (links : List Link) (group : Option ℕ) → marked_parent marks (claim_of links) group ≡ grouped_parent marks links group
 claim_tells marks links None = refl
 claim_tells marks [] (Some n) = refl
 claim_tells marks (l ∷ ls) (Some n) =
-    told marks n l.parent (flat_map (λ k. k.ranges) (l ∷ ls)) (list_all (λ k. is_same_parent k.parent l.parent) ls)
+    claim_parent marks n l.parent (flat_map (λ k. k.ranges) (l ∷ ls)) (list_all (λ k. is_same_parent k.parent l.parent) ls)
 
 -- what the claim on a signal makes of its mark is its parent by the rules
 pub rule_here : (marks : List Mark) (links : List Link) (claims : List Claim) (i : ℕ) (d : Mark) (e claim : Claim) (found : Result (Option Parent) MuxWhy) →
@@ -109,11 +109,11 @@ rule_fault marks links None why h k e = cc
 rule_fault marks [] (Some n) why h k e = not_only _ n why h k e
 rule_fault marks (l ∷ ls) (Some n) why h k e = not_named marks l.parent _ _ why h k e
 
-pub fault_of_unclear : (marks : List Mark) (links : List Link) (signal : ℕ) (why : MuxWhy) → IsFirstUnclear marks links signal why → IsFault marks links (At signal why)
-fault_of_unclear marks links signal NoParent first = first
-fault_of_unclear marks links signal Ambiguous first = first
-fault_of_unclear marks links signal Cycle first = absurd (rule_fault marks (links_to signal links) (group_at marks signal) Cycle (λ e. cc) (λ e. cc) first.unclear)
-fault_of_unclear marks links signal Deep first = absurd (rule_fault marks (links_to signal links) (group_at marks signal) Deep (λ e. cc) (λ e. cc) first.unclear)
+pub fault_of_unresolved : (marks : List Mark) (links : List Link) (signal : ℕ) (why : MuxWhy) → IsFirstUnresolved marks links signal why → IsFault marks links (At signal why)
+fault_of_unresolved marks links signal NoParent first = first
+fault_of_unresolved marks links signal Ambiguous first = first
+fault_of_unresolved marks links signal Cycle first = absurd (rule_fault marks (links_to signal links) (group_at marks signal) Cycle (λ e. cc) (λ e. cc) first.unresolved)
+fault_of_unresolved marks links signal Deep first = absurd (rule_fault marks (links_to signal links) (group_at marks signal) Deep (λ e. cc) (λ e. cc) first.unresolved)
 
 pub length-more : {X : Type 0} → (xs : List X) (x : X) (n : ℕ) → length xs ≡ n → length (xs ++ x ∷ []) ≡ n + 1
 length-more xs x n e = simp length-append (omega arith)

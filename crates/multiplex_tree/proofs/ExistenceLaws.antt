@@ -13,8 +13,8 @@ use Rattle.multiplex_tree.specs.Parents.{AreParents, parent_by_rules}
 use Rattle.multiplex_tree.specs.Chain.{signals_above, ancestor, IsShallow}
 use Rattle.multiplex_tree.specs.FarAbove.{IsFirstSome}
 use Rattle.multiplex_tree.specs.Fault.{IsTree, IsFault, IsFirstCycle, IsFirstDeep}
-use Rattle.multiplex_tree.proofs.ChainLemmas.{none_past, never_ends, ends_of_none}
-use Rattle.multiplex_tree.proofs.ParentLemmas.{parents-more, length-more, fault_of_unclear}
+use Rattle.multiplex_tree.proofs.ChainLaws.{none_past, never_ends, ends_of_none}
+use Rattle.multiplex_tree.proofs.ParentLaws.{parents-more, length-more, fault_of_unresolved}
 
 none_or_some : (f : ℕ → Option ℕ) (n : ℕ) (o : Option ℕ) → f n ≡ o → ((i : ℕ) → i < n → IsNone (f i)) →
     ((i : ℕ) → i < suc n → IsNone (f i)) ⊎ ((s : ℕ) × IsFirstSome (suc n) f s)
@@ -70,16 +70,16 @@ record AreFirstParents (marks : List Mark) (links : List Link) (n : ℕ) (parent
   number : length parents ≡ n
   each : (i : ℕ) → i < n → parent_by_rules marks links i ≡ Ok (get_or parents i None)
 
--- of the first n signals this is the first that has no clear parent, and why
-record IsFirstUnclearOf (marks : List Mark) (links : List Link) (n signal : ℕ) (why : MuxWhy) : Type 0 where
+-- of the first n signals this is the first whose parent is missing or ambiguous, and which of both
+record IsFirstUnresolvedOf (marks : List Mark) (links : List Link) (n signal : ℕ) (why : MuxWhy) : Type 0 where
   within : signal < n
-  unclear : parent_by_rules marks links signal ≡ Err why
+  unresolved : parent_by_rules marks links signal ≡ Err why
   first : (i : ℕ) → i < signal → IsOk (parent_by_rules marks links i)
 
 module _ (marks : List Mark) (links : List Link) where
   one_more_parent : (n : ℕ) (r : Result (Option Parent) MuxWhy) → parent_by_rules marks links n ≡ r →
       (parents : List (Option Parent)) → AreFirstParents marks links n parents →
-      ((ps : List (Option Parent)) × AreFirstParents marks links (suc n) ps) ⊎ ((s : ℕ) × (why : MuxWhy) × IsFirstUnclearOf marks links (suc n) s why)
+      ((ps : List (Option Parent)) × AreFirstParents marks links (suc n) ps) ⊎ ((s : ℕ) × (why : MuxWhy) × IsFirstUnresolvedOf marks links (suc n) s why)
   one_more_parent n (Ok parent) e parents so_far = inl (
     parents ++ parent ∷ [],
     record {
@@ -92,24 +92,24 @@ module _ (marks : List Mark) (links : List Link) where
     why,
     record {
       within = omega arith;
-      unclear = e;
+      unresolved = e;
       first = λ i h. rw (so_far.each i h) refl;
     },
   )
 
-  parents_or_unclear : (n : ℕ) →
-      ((ps : List (Option Parent)) × AreFirstParents marks links n ps) ⊎ ((s : ℕ) × (why : MuxWhy) × IsFirstUnclearOf marks links n s why)
-  parents_or_unclear zero = inl ([], record { number = refl; each = λ i h. absurd (omega arith) })
-  parents_or_unclear (suc n) =
-      elim (parents_or_unclear n) [
+  parents_or_unresolved : (n : ℕ) →
+      ((ps : List (Option Parent)) × AreFirstParents marks links n ps) ⊎ ((s : ℕ) × (why : MuxWhy) × IsFirstUnresolvedOf marks links n s why)
+  parents_or_unresolved zero = inl ([], record { number = refl; each = λ i h. absurd (omega arith) })
+  parents_or_unresolved (suc n) =
+      elim (parents_or_unresolved n) [
         | inl so_far ↦ one_more_parent n (parent_by_rules marks links n) refl so_far.0 so_far.1
-        | inr unclear ↦ inr (
-          unclear.0,
-          unclear.1,
+        | inr unresolved ↦ inr (
+          unresolved.0,
+          unresolved.1,
           record {
-            within = omega (arith, unclear.2.within);
-            unclear = unclear.2.unclear;
-            first = unclear.2.first;
+            within = omega (arith, unresolved.2.within);
+            unresolved = unresolved.2.unresolved;
+            first = unresolved.2.first;
           },
         )
       ]
@@ -128,15 +128,15 @@ module _ (marks : List Mark) (links : List Link) where
 
   pub tree_or_fault : ((t : List (Option Parent)) × IsTree marks links t) ⊎ ((s : ℕ) × (why : MuxWhy) × IsFault marks links (At s why))
   tree_or_fault =
-      elim (parents_or_unclear (length marks)) [
+      elim (parents_or_unresolved (length marks)) [
         | inl found ↦ of_parents found.0 (record { number = found.1.number; each = found.1.each })
-        | inr unclear ↦ inr (
-          unclear.0,
-          unclear.1,
-          fault_of_unclear marks links unclear.0 unclear.1 (record {
-            within = unclear.2.within;
-            unclear = unclear.2.unclear;
-            first = unclear.2.first;
+        | inr unresolved ↦ inr (
+          unresolved.0,
+          unresolved.1,
+          fault_of_unresolved marks links unresolved.0 unresolved.1 (record {
+            within = unresolved.2.within;
+            unresolved = unresolved.2.unresolved;
+            first = unresolved.2.first;
           }),
         )
       ]

@@ -1,6 +1,6 @@
-use Rattle.multiplex_tree.proofs.ExistenceLemmas.{tree_or_fault}
-use Rattle.multiplex_tree.proofs.UniqueLemmas.{same_tree, same_fault, tree_without_fault}
-use Rattle.multiplex_tree.proofs.tree.resolution_is_unique.Goals as goal
+use Rattle.multiplex_tree.proofs.ExistenceLaws.{tree_or_fault}
+use Rattle.multiplex_tree.proofs.UniqueLaws.{same_tree, same_fault, tree_without_fault}
+use Rattle.multiplex_tree.proofs.laws.resolution_is_unique.Goals as goal
 
 pub returns-clause-some : goal.returns-clause-some
 returns-clause-some c = tree_or_fault

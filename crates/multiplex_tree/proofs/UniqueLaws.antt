@@ -14,8 +14,8 @@ use Rattle.multiplex_tree.specs.declared.mark.Link.{Link}
 use Rattle.multiplex_tree.specs.declared.mark.Parent.{Parent}
 use Rattle.multiplex_tree.specs.Parents.{AreParents, parent_by_rules}
 use Rattle.multiplex_tree.specs.Chain.{signals_above, NeverEnds, Ends}
-use Rattle.multiplex_tree.proofs.ChainLemmas.{some_none, ends_of_none}
-use Rattle.multiplex_tree.specs.Fault.{IsTree, IsFault, IsFirstUnclear, IsFirstCycle, IsFirstDeep}
+use Rattle.multiplex_tree.proofs.ChainLaws.{some_none, ends_of_none}
+use Rattle.multiplex_tree.specs.Fault.{IsTree, IsFault, IsFirstUnresolved, IsFirstCycle, IsFirstDeep}
 
 same_ok : (x y : Option Parent) (r : Result (Option Parent) MuxWhy) → r ≡ Ok x → r ≡ Ok y → x ≡ y
 same_ok x y r h k = cc
@@ -37,13 +37,13 @@ module _ (marks : List Mark) (links : List Link) where
   pub same_tree : (a b : List (Option Parent)) → IsTree marks links a → IsTree marks links b → a ≡ b
   same_tree a b h k = same_parents a b h.parents k.parents
 
-  not_unclear : (a : List (Option Parent)) (s : ℕ) (why : MuxWhy) → AreParents marks links a → IsFirstUnclear marks links s why → ⊥
-  not_unclear a s why h f = let e = sym (h.each s f.within) ∙ f.unclear in cc
+  not_unresolved : (a : List (Option Parent)) (s : ℕ) (why : MuxWhy) → AreParents marks links a → IsFirstUnresolved marks links s why → ⊥
+  not_unresolved a s why h f = let e = sym (h.each s f.within) ∙ f.unresolved in cc
 
   -- a tree has no fault
   pub tree_without_fault : (a : List (Option Parent)) (s : ℕ) (why : MuxWhy) → IsTree marks links a → ¬ IsFault marks links (At s why)
-  tree_without_fault a s NoParent h f = not_unclear a s NoParent h.parents f
-  tree_without_fault a s Ambiguous h f = not_unclear a s Ambiguous h.parents f
+  tree_without_fault a s NoParent h f = not_unresolved a s NoParent h.parents f
+  tree_without_fault a s Ambiguous h f = not_unresolved a s Ambiguous h.parents f
   tree_without_fault a s Cycle h f =
       let e : a ≡ f.parents = same_parents a f.parents h.parents f.are_parents in
       f.chains.endless (ends_of_none (signals_above f.parents) 9 s ((rw e at h.shallow) s))
@@ -51,13 +51,13 @@ module _ (marks : List Mark) (links : List Link) where
       let e : a ≡ f.parents = same_parents a f.parents h.parents f.are_parents in
       some_none _ f.chains.deep ((rw e at h.shallow) s)
 
-  earlier : (s t : ℕ) (why because : MuxWhy) → IsFirstUnclear marks links s why → IsFirstUnclear marks links t because → s < t → ⊥
-  earlier s t why because f g less = let ok = rw f.unclear at (g.first s less) in cc
+  earlier : (s t : ℕ) (why because : MuxWhy) → IsFirstUnresolved marks links s why → IsFirstUnresolved marks links t because → s < t → ⊥
+  earlier s t why because f g less = let ok = rw f.unresolved at (g.first s less) in cc
 
-  same_unclear : (s t : ℕ) (why because : MuxWhy) → IsFirstUnclear marks links s why → IsFirstUnclear marks links t because → (s ≡ t) × (why ≡ because)
-  same_unclear s t why because f g =
+  same_unresolved : (s t : ℕ) (why because : MuxWhy) → IsFirstUnresolved marks links s why → IsFirstUnresolved marks links t because → (s ≡ t) × (why ≡ because)
+  same_unresolved s t why because f g =
       let e : s ≡ t = same_by s t (earlier s t why because f g) (earlier t s because why g f) in
-      (e, (let here = sym f.unclear ∙ ap (parent_by_rules marks links) e ∙ g.unclear in cc))
+      (e, (let here = sym f.unresolved ∙ ap (parent_by_rules marks links) e ∙ g.unresolved in cc))
 
 never_and_ends : (ups : List (Option ℕ)) (s : ℕ) → NeverEnds ups s → Ends ups s → ⊥
 never_and_ends ups s never ends = never ends
@@ -71,18 +71,18 @@ same_deep ups s t f g = same_by s t (λ less. some_none _ f.deep (g.first s less
 module _ (marks : List Mark) (links : List Link) where
   -- the fault is this alone
   pub same_fault : (s t : ℕ) (why because : MuxWhy) → IsFault marks links (At s why) → IsFault marks links (At t because) → (s ≡ t) × (why ≡ because)
-  same_fault s t NoParent NoParent f g = same_unclear marks links s t NoParent NoParent f g
-  same_fault s t NoParent Ambiguous f g = same_unclear marks links s t NoParent Ambiguous f g
-  same_fault s t Ambiguous NoParent f g = same_unclear marks links s t Ambiguous NoParent f g
-  same_fault s t Ambiguous Ambiguous f g = same_unclear marks links s t Ambiguous Ambiguous f g
-  same_fault s t NoParent Cycle f g = absurd (not_unclear marks links g.parents s NoParent g.are_parents f)
-  same_fault s t NoParent Deep f g = absurd (not_unclear marks links g.parents s NoParent g.are_parents f)
-  same_fault s t Ambiguous Cycle f g = absurd (not_unclear marks links g.parents s Ambiguous g.are_parents f)
-  same_fault s t Ambiguous Deep f g = absurd (not_unclear marks links g.parents s Ambiguous g.are_parents f)
-  same_fault s t Cycle NoParent f g = absurd (not_unclear marks links f.parents t NoParent f.are_parents g)
-  same_fault s t Cycle Ambiguous f g = absurd (not_unclear marks links f.parents t Ambiguous f.are_parents g)
-  same_fault s t Deep NoParent f g = absurd (not_unclear marks links f.parents t NoParent f.are_parents g)
-  same_fault s t Deep Ambiguous f g = absurd (not_unclear marks links f.parents t Ambiguous f.are_parents g)
+  same_fault s t NoParent NoParent f g = same_unresolved marks links s t NoParent NoParent f g
+  same_fault s t NoParent Ambiguous f g = same_unresolved marks links s t NoParent Ambiguous f g
+  same_fault s t Ambiguous NoParent f g = same_unresolved marks links s t Ambiguous NoParent f g
+  same_fault s t Ambiguous Ambiguous f g = same_unresolved marks links s t Ambiguous Ambiguous f g
+  same_fault s t NoParent Cycle f g = absurd (not_unresolved marks links g.parents s NoParent g.are_parents f)
+  same_fault s t NoParent Deep f g = absurd (not_unresolved marks links g.parents s NoParent g.are_parents f)
+  same_fault s t Ambiguous Cycle f g = absurd (not_unresolved marks links g.parents s Ambiguous g.are_parents f)
+  same_fault s t Ambiguous Deep f g = absurd (not_unresolved marks links g.parents s Ambiguous g.are_parents f)
+  same_fault s t Cycle NoParent f g = absurd (not_unresolved marks links f.parents t NoParent f.are_parents g)
+  same_fault s t Cycle Ambiguous f g = absurd (not_unresolved marks links f.parents t Ambiguous f.are_parents g)
+  same_fault s t Deep NoParent f g = absurd (not_unresolved marks links f.parents t NoParent f.are_parents g)
+  same_fault s t Deep Ambiguous f g = absurd (not_unresolved marks links f.parents t Ambiguous f.are_parents g)
   same_fault s t Cycle Cycle f g =
       let e : g.parents ≡ f.parents = same_parents marks links g.parents f.parents g.are_parents f.are_parents in
       (same_cycle (signals_above f.parents) s t f.chains (subst (λ (ps : List (Option Parent)). IsFirstCycle (signals_above ps) t) e g.chains), refl)
@@ -99,7 +99,7 @@ module _ (marks : List Mark) (links : List Link) where
       absurd (never_and_ends (signals_above g.parents) t g.chains.endless (deep.ends t))
 
 module _ (marks : List Mark) (links : List Link) where
-  -- an answer that is true of marks and links is the tree that they have, or want of memory
+  -- an answer that is true of marks and links is the tree that they have, or out of memory
   pub tree_answered : (r : Result Tree MuxFault) → IfOk r (λ t. IsTree marks links t.parents) → IfErr r (IsFault marks links) →
       (parents : List (Option Parent)) → IsTree marks links parents → IsOkAnd r (λ t. t.parents ≡ parents) ⊎ IsErrOf r Memory
   tree_answered (Ok t) h f parents k = inl (same_tree marks links t.parents parents h k)
