@@ -1,14 +1,28 @@
--- The limits of a scaling: at most thirty places after the point, numerators below 2^62 in size.
+-- The limits of a scaling, and those of a raw value.
 use Rattle.std.specs.Prelude.{ℕ, List, ◌^◌, ◌-◌, ◌<◌, ◌≤◌, ◌⊎◌, ℤ, pos, neg_ℤ, ◌*ℤ◌, ◌<ℤ◌, ◌≤ℤ◌, unsigned_abs}
+use Rattle.exact_scale.specs.declared.scaling.Scale.{Scale}
 use Rattle.exact_scale.specs.Spelling.{Denotes}
+
+-- how many places may stand after the point, and what numerators are below in size
+abbrev pub most_places : ℕ
+most_places = 30
+
+abbrev pub numerator_limit : ℕ
+numerator_limit = 2 ^ 62
 
 -- a numerator within the limit
 abbrev pub IsNarrow : ℤ → Type 0
-IsNarrow n = unsigned_abs n < 2 ^ 62
+IsNarrow n = unsigned_abs n < numerator_limit
+
+-- a scale within the limits: both numerators, and its places
+pub record IsScale (scale : Scale) : Type 0 where
+  pub factor : IsNarrow scale.factor
+  pub offset : IsNarrow scale.offset
+  pub places : scale.k ≤ most_places
 
 -- `n / 10^k` is past the limits
 abbrev pub IsTooWide : ℤ → ℕ → Type 0
-IsTooWide n k = (30 < k) ⊎ (2 ^ 62 ≤ unsigned_abs n)
+IsTooWide n k = (most_places < k) ⊎ (numerator_limit ≤ unsigned_abs n)
 
 -- the text denotes a decimal past the limits
 pub record DenotesTooWide (text : List ℕ) : Type 0 where

@@ -1,6 +1,7 @@
 -- What the reader's steps say to one another: where a text is cut, and numbers that are kept up to a bound.
 use Rattle.std.specs.Prelude.{◌≡◌, ℕ, ◌*◌, ◌^◌, ◌-◌, ◌%◌, ◌<◌, ◌≤◌, min, ◌⊎◌, Bool, true, false, List, [], ◌∷◌, ◌++◌, length, Option, Some, None}
 use Rattle.exact_scale.specs.Digits.{IsDigit, AllDigits, number}
+use Rattle.exact_scale.specs.Limits.{most_places, numerator_limit}
 use Rattle.exact_scale.specs.Spelling.{Sign, NoSign, Plus, Minus, sign_text, Exponent, Spelling, fraction_digits, fraction_text, exponent_text, IsLawfulExponent, Spells, upward, downward, raised, lowered}
 
 -- the bytes are none or begin with something else than a digit
@@ -99,7 +100,7 @@ pub record IsSignificand (n size zeros : ℕ) : Type 0 where
   pub short : ℕ
   pub same : n ≡ short * 10 ^ zeros
   pub last : ((short ≡ 0) × (zeros ≡ 0)) ⊎ (0 < short % 10)
-  pub kept : size ≡ min short (2 ^ 62)
+  pub kept : size ≡ min short numerator_limit
 
 -- `above / below` is `n / 10^k`, with the least `k`
 pub record IsLeastSize (above below n k : ℕ) : Type 0 where
@@ -111,12 +112,12 @@ pub record LeastSizeTooWide (above below : ℕ) : Type 0 where
   pub size : ℕ
   pub places : ℕ
   pub least : IsLeastSize above below size places
-  pub wide : (30 < places) ⊎ (2 ^ 62 ≤ size)
+  pub wide : (most_places < places) ⊎ (numerator_limit ≤ size)
 
 -- a number that does not end in 0, or 0, to be raised and lowered: kept are the number up to 2^62, and by how much more it is
 -- raised than lowered or lowered than raised, which decide alike below 64
 pub record Moves (size up down short rise fall : ℕ) : Type 0 where
-  pub kept : size ≡ min short (2 ^ 62)
+  pub kept : size ≡ min short numerator_limit
   pub last : (short ≡ 0) ⊎ (0 < short % 10)
   pub upward : min up 64 ≡ min (rise - fall) 64
   pub downward : min down 64 ≡ min (fall - rise) 64

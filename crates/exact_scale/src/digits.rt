@@ -5,14 +5,28 @@ ghost use Rattle.exact_scale.specs.Digits.{decimal_digits, last_digits};
 
 use std::alloc::AllocError;
 
-/// Appends a number's digits without leading zeros, and `0` for 0. Some of them may stand in
-/// `out` after an error.
+/// Appends a number's digits without leading zeros, and `0` for 0. Some of them may stand in `out` after an error.
 pub(crate) fn push_number(out: &mut Vec<u8>, number: u128) -> Result<(), AllocError>
     ensures ok { OnOk result (out.new.items ≡ out.old.items ++ decimal_digits number) }
     ensures grows { Extends out.old.items out.new.items }
 {
+    match u64::try_from(number) {
+        Ok(number) => push_small(out, number),
+        Err(_) => {
+            push_number(out, number / 10)?;
+            out.push(b'0' + (number % 10) as u8)?;
+            Ok(())
+        }
+    }
+}
+
+/// The same of a number that fits 64 bits, which are faster to divide.
+fn push_small(out: &mut Vec<u8>, number: u64) -> Result<(), AllocError>
+    ensures ok { OnOk result (out.new.items ≡ out.old.items ++ decimal_digits number) }
+    ensures grows { Extends out.old.items out.new.items }
+{
     if number >= 10 {
-        push_number(out, number / 10)?;
+        push_small(out, number / 10)?;
     }
     out.push(b'0' + (number % 10) as u8)?;
     Ok(())

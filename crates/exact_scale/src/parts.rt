@@ -113,7 +113,7 @@ fn read_signed(text: &[u8]) -> Option<Exponent>
     if digits.is_empty() || !rest.is_empty() {
         return None;
     }
-    let size = capped_number(digits);
+    let size = cap_number(digits);
     Some(if negative {
         Exponent {
             raised: 0,
@@ -128,7 +128,7 @@ fn read_signed(text: &[u8]) -> Option<Exponent>
 }
 
 /// The number that digits spell, up to the bound.
-fn capped_number(digits: &[u8]) -> u128
+fn cap_number(digits: &[u8]) -> u128
     requires { AllDigits digits.now }
     ensures { result ≡ capped (number digits.now) }
 {

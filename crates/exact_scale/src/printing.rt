@@ -7,8 +7,10 @@ ghost use Rattle.exact_scale.specs.ShortestText.{decimal_text, IsShortestText, m
 use crate::digits::{push_fraction, push_number};
 use std::alloc::AllocError;
 
-/// A `u128` has at most this many decimal digits.
+/// A `u128` has at most this many decimal digits, and a `u64` at most so many.
 const MOST_DIGITS: u32 = 39;
+
+const MOST_SMALL_DIGITS: u32 = 20;
 
 /// The fraction `num / 10^k`.
 #[derive(Clone, Copy, Debug, PartialEq, Eq)]
@@ -74,6 +76,22 @@ fn without_last_zeros(size: u128, places: u32) -> (u128, u32)
     ensures same { size ≡ result.0 * 10 ^ (places - result.1) }
     ensures last { (result.1 ≡ 0) ⊎ (0 < result.0 % 10) }
 {
+    match u64::try_from(size) {
+        Ok(size) => {
+            let (size, places) = small_without_last_zeros(size, places);
+            (u128::from(size), places)
+        }
+        Err(_) if places > 0 && size % 10 == 0 => without_last_zeros(size / 10, places - 1),
+        Err(_) => (size, places),
+    }
+}
+
+/// The same of a size that fits 64 bits, which are faster to divide.
+fn small_without_last_zeros(size: u64, places: u32) -> (u64, u32)
+    ensures shorter { result.1 ≤ places }
+    ensures same { size ≡ result.0 * 10 ^ (places - result.1) }
+    ensures last { (result.1 ≡ 0) ⊎ (0 < result.0 % 10) }
+{
     let mut size = size;
     let mut places = places;
     while places > 0 && size % 10 == 0 {
@@ -88,8 +106,26 @@ fn at_point(size: u128, places: u32) -> (u128, u128)
     ensures whole { result.0 ≡ size / 10 ^ places }
     ensures rest { result.1 ≡ size % 10 ^ places }
 {
-    if places < MOST_DIGITS {
-        let unit = 10u128.pow(places);
+    match u64::try_from(size) {
+        Ok(size) => {
+            let (whole, rest) = small_at_point(size, places);
+            (u128::from(whole), u128::from(rest))
+        }
+        Err(_) if places < MOST_DIGITS => {
+            let unit = 10u128.pow(places);
+            (size / unit, size % unit)
+        }
+        Err(_) => (0, size),
+    }
+}
+
+/// The same of a size that fits 64 bits.
+fn small_at_point(size: u64, places: u32) -> (u64, u64)
+    ensures whole { result.0 ≡ size / 10 ^ places }
+    ensures rest { result.1 ≡ size % 10 ^ places }
+{
+    if places < MOST_SMALL_DIGITS {
+        let unit = 10u64.pow(places);
         (size / unit, size % unit)
     } else {
         (0, size)

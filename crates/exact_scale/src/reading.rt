@@ -1,7 +1,7 @@
 //! Decimals out of a text.
 ghost use Rattle.std.specs.Prelude.{◌≡◌, ◌↔◌, ◌^◌, ◌≤◌, IfOk, IfSome, IfNone, List, ℤ, ℕ, pos, neg_ℤ, if◌then◌else◌};
 ghost use Rattle.exact_scale.specs.Digits.{AllDigits};
-ghost use Rattle.exact_scale.specs.Limits.{IsNarrow, DenotesTooWide};
+ghost use Rattle.exact_scale.specs.Limits.{most_places, IsNarrow, DenotesTooWide};
 ghost use Rattle.exact_scale.specs.Parts.{HasParts};
 ghost use Rattle.exact_scale.specs.Spelling.{IsDecimalText, Denotes};
 
@@ -35,7 +35,7 @@ impl Decimal {
     /// places over which the value stands.
     pub fn read(text: &[u8]) -> Result<Decimal, DecimalFault>
         ensures value { IfOk result (λ decimal. Denotes text.now decimal.num decimal.k) }
-        ensures narrow { IfOk result (λ decimal. (decimal.k ≤ 30) × IsNarrow decimal.num) }
+        ensures narrow { IfOk result (λ decimal. (decimal.k ≤ most_places) × IsNarrow decimal.num) }
 
         // A text denotes one decimal.
         ensures only { IfOk result (λ decimal. (n : ℤ) (k : ℕ) → Denotes text.now n k
@@ -47,7 +47,7 @@ impl Decimal {
     {
         match Parts::split(text) {
             None => Err(DecimalFault::Form),
-            Some(parts) => match narrowed(&parts) {
+            Some(parts) => match narrow(&parts) {
                 None => Err(DecimalFault::Wide),
                 Some(decimal) => Ok(decimal),
             },
@@ -56,7 +56,7 @@ impl Decimal {
 }
 
 /// The decimal of the parts, if it is within the limits.
-fn narrowed(parts: &Parts<'_>) -> Option<Decimal>
+fn narrow(parts: &Parts<'_>) -> Option<Decimal>
     requires whole { AllDigits parts.now.whole.now }
     requires fraction { AllDigits parts.now.fraction.now }
     requires raised { parts.now.exponent.raised ≤ 2 ^ 100 }
@@ -64,7 +64,7 @@ fn narrowed(parts: &Parts<'_>) -> Option<Decimal>
     ensures some { IfSome result (λ decimal. (text : List ℕ) → HasParts text parts.now.negative
         parts.now.whole.now parts.now.fraction.now parts.now.exponent.raised
         parts.now.exponent.lowered → Denotes text decimal.num decimal.k) }
-    ensures narrow { IfSome result (λ decimal. (decimal.k ≤ 30) × IsNarrow decimal.num) }
+    ensures narrow { IfSome result (λ decimal. (decimal.k ≤ most_places) × IsNarrow decimal.num) }
     ensures none { IfNone result ((text : List ℕ) → HasParts text parts.now.negative
         parts.now.whole.now parts.now.fraction.now parts.now.exponent.raised
         parts.now.exponent.lowered → DenotesTooWide text) }
@@ -72,7 +72,7 @@ fn narrowed(parts: &Parts<'_>) -> Option<Decimal>
     let significand = Significand::of(parts.whole, parts.fraction);
     let up = significand.zeros + parts.exponent.raised;
     let down = parts.fraction.len() as u128 + parts.exponent.lowered;
-    match significand.moved(up.saturating_sub(down), down.saturating_sub(up)) {
+    match significand.shift(up.saturating_sub(down), down.saturating_sub(up)) {
         None => None,
         Some((size, k)) => Some(Decimal {
             num: signed(parts.negative, size),

@@ -1,10 +1,11 @@
 //! A factor and an offset over one power of ten, and their use on a raw value.
 ghost use Rattle.std.specs.Prelude.{◌≡◌, ◌^◌, ◌≤◌, ◌⊎◌, ◌↔◌, max, pos, ◌+ℤ◌, ◌*ℤ◌, unsigned_abs, IfOk, IsErr};
 ghost use Rattle.exact_scale.specs.Fraction.{IsSame, decimal_fraction};
-ghost use Rattle.exact_scale.specs.Limits.{IsNarrow, IsRawValue, numerator_over};
+ghost use Rattle.exact_scale.specs.Limits.{most_places, numerator_limit, IsNarrow, IsScale, IsRawValue, numerator_over};
 
 use crate::printing::Exact;
 use crate::reading::Decimal;
+use crate::significand::NUMERATOR_LIMIT;
 use thiserror::Error;
 
 /// A factor and an offset over one power of ten: `factor / 10^k` and `offset / 10^k`.
@@ -23,19 +24,17 @@ pub struct Scale {
 #[error("a scaling past the limits")]
 pub struct Wide;
 
-/// Numerators of a scale are below this in size.
-const NUMERATOR_LIMIT: u128 = 1 << 62;
-
 impl Scale {
     /// The scale of a factor and an offset, over the greater of their powers of ten.
     pub fn new(factor: Decimal, offset: Decimal) -> Result<Scale, Wide>
-        requires factor_places { factor.k ≤ 30 }
-        requires offset_places { offset.k ≤ 30 }
+        requires factor_places { factor.k ≤ most_places }
+        requires offset_places { offset.k ≤ most_places }
 
         ensures places { IfOk result (λ scale. scale.k ≡ max factor.k offset.k) }
         ensures factor { IfOk result (λ scale. scale.factor ≡ numerator_over scale.k factor.num factor.k) }
         ensures offset { IfOk result (λ scale. scale.offset ≡ numerator_over scale.k offset.num offset.k) }
         ensures narrow { IfOk result (λ scale. IsNarrow scale.factor × IsNarrow scale.offset) }
+        ensures limits { IfOk result IsScale }
 
         // The factor and the offset are the fractions that they were.
         ensures same_factor { IfOk result (λ scale. IsSame (decimal_fraction scale.factor scale.k)
@@ -45,8 +44,8 @@ impl Scale {
 
         // Exactly where one of the numerators over the common power of ten is too wide.
         ensures wide { IsErr result ↔
-            ((2 ^ 62 ≤ unsigned_abs (numerator_over (max factor.k offset.k) factor.num factor.k))
-            ⊎ (2 ^ 62 ≤ unsigned_abs (numerator_over (max factor.k offset.k) offset.num offset.k))) }
+            ((numerator_limit ≤ unsigned_abs (numerator_over (max factor.k offset.k) factor.num factor.k))
+            ⊎ (numerator_limit ≤ unsigned_abs (numerator_over (max factor.k offset.k) offset.num offset.k))) }
     {
         let k = factor.k.max(offset.k);
         let factor = numerator_over(factor, k)?;
@@ -54,10 +53,9 @@ impl Scale {
         Ok(Scale { factor, offset, k })
     }
 
-    /// The physical value of a raw value: `raw * factor + offset` over `10^k`.
+    /// The physical value of a raw value: `raw * factor + offset` over `10^k`, for a scale as `new` makes it.
     pub fn apply(&self, raw: i128) -> Exact
-        requires factor { IsNarrow self.now.factor }
-        requires offset { IsNarrow self.now.offset }
+        requires scale { IsScale self.now }
         requires raw { IsRawValue raw }
 
         ensures value { result.num ≡ (raw *ℤ self.now.factor) +ℤ self.now.offset }
@@ -73,10 +71,10 @@ impl Scale {
 /// The numerator over `10^to` of a decimal with at most that many places.
 fn numerator_over(decimal: Decimal, to: u32) -> Result<i128, Wide>
     requires places { decimal.k ≤ to }
-    requires limit { to ≤ 30 }
+    requires limit { to ≤ most_places }
     ensures value { IfOk result (λ n. n ≡ numerator_over to decimal.num decimal.k) }
     ensures narrow { IfOk result IsNarrow }
-    ensures wide { IsErr result ↔ (2 ^ 62 ≤ unsigned_abs (numerator_over to decimal.num decimal.k)) }
+    ensures wide { IsErr result ↔ (numerator_limit ≤ unsigned_abs (numerator_over to decimal.num decimal.k)) }
 {
     let unit = 10i128.pow(to - decimal.k);
     match decimal.num.checked_mul(unit) {

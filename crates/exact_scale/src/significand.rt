@@ -2,10 +2,11 @@
 //! those zeros.
 ghost use Rattle.std.specs.Prelude.{◌≡◌, ◌+◌, ◌*◌, ◌^◌, ◌≤◌, ◌<◌, ◌++◌, ℕ, IfSome, IfNone, length};
 ghost use Rattle.exact_scale.specs.Digits.{AllDigits, number};
+ghost use Rattle.exact_scale.specs.Limits.{most_places, numerator_limit};
 ghost use Rattle.exact_scale.specs.Parts.{IsSignificand, IsLeastSize, LeastSizeTooWide, Moves};
 
-/// Numerators are below this.
-const NUMERATOR_LIMIT: u128 = 1 << 62;
+/// Numerators are below this in size.
+pub(crate) const NUMERATOR_LIMIT: u128 = 1 << 62;
 
 /// Decimals have at most this many places.
 const MOST_PLACES: u128 = 30;
@@ -27,12 +28,12 @@ impl Significand {
         ensures zeros { result.zeros ≤ length whole.now + length fraction.now }
     {
         Significand { size: 0, zeros: 0 }
-            .extended(whole)
-            .extended(fraction)
+            .extend(whole)
+            .extend(fraction)
     }
 
     /// The number with more digits behind it.
-    fn extended(self, digits: &[u8]) -> Significand
+    fn extend(self, digits: &[u8]) -> Significand
         requires digits { AllDigits digits.now }
         requires zeros { self.zeros < 2 ^ 64 }
         ensures number { (n : ℕ) → IsSignificand n self.size self.zeros
@@ -41,13 +42,13 @@ impl Significand {
     {
         let mut significand = self;
         for byte in digits {
-            significand = significand.pushed(byte - b'0');
+            significand = significand.push(byte - b'0');
         }
         significand
     }
 
     /// The number with one more digit behind it.
-    fn pushed(self, digit: u8) -> Significand
+    fn push(self, digit: u8) -> Significand
         requires digit { digit < 10 }
         requires zeros { self.zeros < 2 ^ 127 }
         ensures number { (n : ℕ) → IsSignificand n self.size self.zeros
@@ -56,7 +57,7 @@ impl Significand {
     {
         if digit != 0 {
             Significand {
-                size: joined(self, digit),
+                size: join(self, digit),
                 zeros: 0,
             }
         } else if self.size != 0 {
@@ -71,10 +72,10 @@ impl Significand {
 
     /// The number without its zeros moved up or down, if it is within the limits: a numerator, and
     /// how many places it has.
-    pub(crate) fn moved(self, up: u128, down: u128) -> Option<(u64, u32)>
+    pub(crate) fn shift(self, up: u128, down: u128) -> Option<(u64, u32)>
         ensures some { IfSome result (λ r. (short rise fall : ℕ) → Moves self.size up down short rise fall
             → IsLeastSize (short * 10 ^ rise) (10 ^ fall) r.0 r.1) }
-        ensures narrow { IfSome result (λ r. (r.0 < 2 ^ 62) × (r.1 ≤ 30)) }
+        ensures narrow { IfSome result (λ r. (r.0 < numerator_limit) × (r.1 ≤ most_places)) }
         ensures none { IfNone result ((short rise fall : ℕ) → Moves self.size up down short rise fall
             → LeastSizeTooWide (short * 10 ^ rise) (10 ^ fall)) }
     {
@@ -93,7 +94,7 @@ impl Significand {
 }
 
 /// A significand with its zeros and one more digit behind it, up to the limit.
-fn joined(front: Significand, digit: u8) -> u64
+fn join(front: Significand, digit: u8) -> u64
     requires positive { 0 < digit }
     requires digit { digit < 10 }
     ensures { (n : ℕ) → IsSignificand n front.size front.zeros → IsSignificand (n * 10 + digit) result 0 }

@@ -1,7 +1,7 @@
 use Rattle.std.proofs.Common.{◌≡◌, ◌+◌, ◌-◌, ◌++◌, replicate, ap, ◌∙◌, arith, append_assoc}
 use Rattle.std.proofs.lemmas.Result.{on_ok_weaker}
 use Rattle.exact_scale.specs.Digits.{decimal_digits}
-use Rattle.exact_scale.proofs.DigitLemmas.{digits_room, padded_number, zero_more}
+use Rattle.exact_scale.proofs.DigitLaws.{digits_room, padded_number, zero_more}
 use Rattle.exact_scale.proofs.digits.push_fraction.Goals as goal
 
 pub loop-zero-preserved : goal.loop-zero-preserved

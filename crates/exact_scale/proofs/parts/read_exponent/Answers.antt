@@ -1,6 +1,6 @@
 use Rattle.std.proofs.Common.{◌≡◌, ◌⊎◌, get_or, refl, arith}
 use Rattle.exact_scale.specs.Parts.{SignedRead, ExponentRead}
-use Rattle.exact_scale.proofs.PartsLemmas.{first_byte, exponent_read, some_weaker}
+use Rattle.exact_scale.proofs.PartsLaws.{first_byte, exponent_read, some_weaker}
 use Rattle.exact_scale.proofs.parts.read_exponent.Goals as goal
 
 pub returns-in-101-clause-some : goal.returns-in-101-clause-some

@@ -1,6 +1,6 @@
 use Rattle.std.proofs.Common.{inl, inr, arith}
 use Rattle.std.proofs.lemmas.Bool.Decides.{nat_tests}
-use Rattle.exact_scale.proofs.PartsLemmas.{no_signed}
+use Rattle.exact_scale.proofs.PartsLaws.{no_signed}
 use Rattle.exact_scale.proofs.parts.read_signed.Goals as goal
 use Rattle.exact_scale.proofs.parts.read_signed.Goals.{then-is_empty-via-then-is_empty, then-is_empty-via-else-is_empty+then-not-is_empty}
 

@@ -1,5 +1,5 @@
 use Rattle.std.proofs.Common.{◌≡◌, get_or, arith}
-use Rattle.exact_scale.proofs.PartsLemmas.{first_byte, point_taken}
+use Rattle.exact_scale.proofs.PartsLaws.{first_byte, point_taken}
 use Rattle.exact_scale.proofs.parts.split_point.Goals as goal
 
 pub returns-in-46 : goal.returns-in-46

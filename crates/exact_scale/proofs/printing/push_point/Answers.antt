@@ -1,7 +1,7 @@
 use Rattle.std.proofs.Common.{[], ◌∷◌, ◌++◌, ap, ◌∙◌, arith, append_assoc}
 use Rattle.std.proofs.lemmas.Result.{on_ok_weaker}
 use Rattle.exact_scale.specs.Digits.{last_digits}
-use Rattle.exact_scale.proofs.TextLemmas.{point_written}
+use Rattle.exact_scale.proofs.TextLaws.{point_written}
 use Rattle.exact_scale.proofs.printing.push_point.Goals as goal
 
 pub returns-clause-ok : goal.returns-clause-ok

@@ -1,5 +1,5 @@
 use Rattle.std.proofs.Common.{◌^◌, ◌-◌, ◌≤◌, arith}
-use Rattle.exact_scale.proofs.Powers.{at_most_30}
+use Rattle.exact_scale.proofs.PowerLaws.{at_most_30}
 use Rattle.exact_scale.proofs.scaling.numerator_over.Goals as goal
 
 pub pow-unit-requires : goal.pow-unit-requires

@@ -1,6 +1,6 @@
 use Rattle.std.proofs.Common.{arith}
 use Rattle.std.proofs.lemmas.Bool.Decides.{nat_tests}
-use Rattle.exact_scale.proofs.PartsLemmas.{has_parts, no_digits, bad_exponent}
+use Rattle.exact_scale.proofs.PartsLaws.{has_parts, no_digits, bad_exponent}
 use Rattle.exact_scale.proofs.parts.Parts.split.Goals as goal
 use Rattle.exact_scale.proofs.parts.Parts.split.Goals.{else-is_empty-via-then-is_empty+else-is_empty-2, else-is_empty-via-else-is_empty}
 

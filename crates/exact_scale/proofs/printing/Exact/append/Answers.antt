@@ -1,5 +1,5 @@
-use Rattle.exact_scale.proofs.ShortestLemmas.{shortest_text, same_fraction}
-use Rattle.exact_scale.proofs.TextLemmas.{same_text}
+use Rattle.exact_scale.proofs.ShortestLaws.{shortest_text, same_fraction}
+use Rattle.exact_scale.proofs.TextLaws.{same_text}
 use Rattle.exact_scale.proofs.printing.Exact.append.Goals as goal
 
 pub returns-in-Ok-clause-shortest : goal.returns-in-Ok-clause-shortest

@@ -5,8 +5,8 @@ use Rattle.std.proofs.lemmas.Int.{to_z-of_z}
 use Rattle.std.proofs.lemmas.Nat.{mod_below}
 use Rattle.std.proofs.lemmas.Result.{on_ok_weaker}
 use Rattle.exact_scale.specs.ShortestText.{minus_of}
-use Rattle.exact_scale.proofs.Powers.{ten_pos}
-use Rattle.exact_scale.proofs.TextLemmas.{last_kept, text_joined, pieces_joined}
+use Rattle.exact_scale.proofs.PowerLaws.{ten_pos}
+use Rattle.exact_scale.proofs.TextLaws.{last_kept, text_joined, pieces_joined}
 use Rattle.exact_scale.proofs.printing.Exact.write.Goals as goal
 
 pub push_point-requires-clause-proper : goal.push_point-requires-clause-proper

@@ -3,7 +3,7 @@ use Rattle.std.specs.Prelude.{FitsSigned}
 use Rattle.std.specs.Int.{w128}
 use Rattle.std.proofs.lemmas.Int.{to_z-of_z}
 use Rattle.exact_scale.specs.Fraction.{IsSame, decimal_fraction}
-use Rattle.exact_scale.proofs.Signs.{numerator_same}
+use Rattle.exact_scale.proofs.SignLaws.{numerator_same}
 use Rattle.exact_scale.proofs.scaling.Scale.new.Goals as goal
 
 pub returns-clause-same_factor : goal.returns-clause-same_factor

@@ -1,7 +1,7 @@
 use Rattle.std.proofs.Common.{◌+◌, ◌*◌, sym, subst, arith}
 use Rattle.exact_scale.specs.Parts.{IsSignificand}
-use Rattle.exact_scale.proofs.SignificandLemmas.{pushed_zero}
-use Rattle.exact_scale.proofs.significand.Significand.pushed.Goals as goal
+use Rattle.exact_scale.proofs.SignificandLaws.{pushed_zero}
+use Rattle.exact_scale.proofs.significand.Significand.push.Goals as goal
 
 pub returns-then-self-ne0-clause-number : goal.returns-then-self-ne0-clause-number
 returns-then-self-ne0-clause-number c = λ n s.

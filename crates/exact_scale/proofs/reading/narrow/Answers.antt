@@ -3,8 +3,8 @@ use Rattle.std.specs.Prelude.{FitsSigned}
 use Rattle.std.specs.Int.{w128}
 use Rattle.std.proofs.lemmas.Int.{to_z-of_z}
 use Rattle.exact_scale.specs.Spelling.{Denotes}
-use Rattle.exact_scale.proofs.ReadLemmas.{parts_move, parts_denote, parts_wide}
-use Rattle.exact_scale.proofs.reading.narrowed.Goals as goal
+use Rattle.exact_scale.proofs.ReadLaws.{parts_move, parts_denote, parts_wide}
+use Rattle.exact_scale.proofs.reading.narrow.Goals as goal
 
 pub returns-in-None-clause-none : goal.returns-in-None-clause-none
 returns-in-None-clause-none c = λ text p.

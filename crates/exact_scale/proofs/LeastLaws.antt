@@ -5,8 +5,8 @@ use Rattle.std.proofs.lemmas.Int.{unsigned_abs-mul}
 use Rattle.std.proofs.lemmas.Bool.{cases_lt}
 use Rattle.exact_scale.specs.Fraction.{Fraction, IsLeastDecimal}
 use Rattle.exact_scale.specs.Spelling.{Sign, signed}
-use Rattle.exact_scale.proofs.Powers.{ten_times, ten_moved, cancel_ten, last_digit}
-use Rattle.exact_scale.proofs.Signs.{signed_times, abs_signed, cancel_pos}
+use Rattle.exact_scale.proofs.PowerLaws.{ten_times, ten_moved, cancel_ten, last_digit}
+use Rattle.exact_scale.proofs.SignLaws.{signed_times, abs_signed, cancel_pos}
 
 too_few : (s up j i m : ℕ) → m * 10 ^ (up + j + suc i) ≡ s * 10 ^ up * 10 ^ j → s % 10 ≡ 0
 too_few s up j i m e =

@@ -1,9 +1,9 @@
 use Rattle.std.proofs.Common.{◌+◌, ◌*◌, take, ap, ◌∙◌, sym}
 use Rattle.exact_scale.specs.Digits.{number}
 use Rattle.exact_scale.specs.Parts.{capped}
-use Rattle.exact_scale.proofs.PartsLemmas.{capped_more}
-use Rattle.exact_scale.proofs.SignificandLemmas.{number_more}
-use Rattle.exact_scale.proofs.parts.capped_number.Goals as goal
+use Rattle.exact_scale.proofs.PartsLaws.{capped_more}
+use Rattle.exact_scale.proofs.SignificandLaws.{number_more}
+use Rattle.exact_scale.proofs.parts.cap_number.Goals as goal
 
 pub loop-byte-preserved : goal.loop-byte-preserved
 loop-byte-preserved c =

@@ -9,7 +9,7 @@ use Rattle.std.proofs.lemmas.List.{map-append, append-nil, length-map}
 use Rattle.std.proofs.lemmas.Grind.{replicate_next}
 use borrow.Author.Tests.{ne_eqb}
 use Rattle.exact_scale.specs.Digits.{IsDigit, AllDigits, number, decimal_digits, last_digits}
-use Rattle.exact_scale.proofs.Powers.{ten_pos, ten_le}
+use Rattle.exact_scale.proofs.PowerLaws.{ten_pos, ten_le}
 
 -- digits joined spell the first number, moved up, and the second
 pub number-append : (front back : List ℕ) → number (front ++ back) ≡ number front * 10 ^ length back + number back

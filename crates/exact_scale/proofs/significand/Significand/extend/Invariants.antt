@@ -1,7 +1,7 @@
 use Rattle.std.proofs.Common.{ℕ, ◌+◌, ◌*◌, ◌^◌, ◌≤◌, take}
 use Rattle.exact_scale.specs.Digits.{number}
 use Rattle.exact_scale.specs.Parts.{IsSignificand}
-use Rattle.exact_scale.proofs.significand.Significand.extended.Given as goal
+use Rattle.exact_scale.proofs.significand.Significand.extend.Given as goal
 
 -- the number of the digits so far
 abbrev pub invariant-loop-byte : goal.invariant-loop-byte

@@ -6,8 +6,8 @@ use Rattle.std.proofs.lemmas.List.{take_more, take-append-drop, append-nil}
 use Rattle.exact_scale.specs.Digits.{IsDigit, AllDigits, number}
 use Rattle.exact_scale.specs.Parts.{NoDigitFirst, NoPointFirst, TakesSign, SignSplit, DigitSplit, PointSplit, ExponentRead, NoExponent, SignedRead, NoSigned, HasParts, is_minus, capped}
 use Rattle.exact_scale.specs.Spelling.{Sign, NoSign, Plus, Minus, sign_text, Spelling, fraction_digits, fraction_text, exponent_text, Spells, IsDecimalText, upward, downward}
-use Rattle.exact_scale.proofs.DigitLemmas.{AllDigits-append}
-use Rattle.exact_scale.proofs.SpellingLemmas.{Front, front_of, front_once, digits_once, sign_once, digits_take_sign, head_same, tail_same, SameParts}
+use Rattle.exact_scale.proofs.DigitLaws.{AllDigits-append}
+use Rattle.exact_scale.proofs.SpellingLaws.{Front, front_of, front_once, digits_once, sign_once, digits_take_sign, head_same, tail_same, SameParts}
 
 -- ---- digits in front
 

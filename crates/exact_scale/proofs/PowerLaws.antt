@@ -51,3 +51,10 @@ rest_moved n k j =
     ap (λ x. x * 10 ^ j) (sym (div-add-mod' n (10 ^ k))) ∙ add-mul (q * 10 ^ k) r (10 ^ j) ∙ ap (λ x. x + r * 10 ^ j) (ten_times q k j) in
     let below : r * 10 ^ j < 10 ^ (k + j) = subst (λ p. r * 10 ^ j < p) (sym (pow-add 10 k j)) (mul-lt-mul_of_pos_right (mod_below n (10 ^ k) (ten_pos k)) (ten_pos j)) in
     ap (λ x. x % 10 ^ (k + j)) moved ∙ mod-mul-add q (10 ^ (k + j)) (r * 10 ^ j) below
+
+-- a last zero is dropped
+pub zero_dropped : (size n e f : ℕ) → size % 10 ≡ 0 → size / 10 ≡ n * 10 ^ e → f ≡ suc e → size ≡ n * 10 ^ f
+zero_dropped size n e f zero tenth one_more =
+    let whole : size ≡ size / 10 * 10 = omega arith in
+    let places : e + 1 ≡ f = omega arith in
+    whole ∙ ap (λ q. q * 10) tenth ∙ ten_times n e 1 ∙ ap (λ j. n * 10 ^ j) places

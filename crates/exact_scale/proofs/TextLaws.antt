@@ -5,9 +5,9 @@ use Rattle.std.proofs.lemmas.Int.{unsigned_abs-mul}
 use Rattle.exact_scale.specs.Digits.{decimal_digits, last_digits}
 use Rattle.exact_scale.specs.Fraction.{IsSame, decimal_fraction}
 use Rattle.exact_scale.specs.ShortestText.{decimal_text, size_text, point_text, minus_of}
-use Rattle.exact_scale.proofs.Powers.{ten_pos, low_digit}
-use Rattle.exact_scale.proofs.Signs.{minus_of-times}
-use Rattle.exact_scale.proofs.ZeroLemmas.{point_text-odd, size_text-moved}
+use Rattle.exact_scale.proofs.PowerLaws.{ten_pos, low_digit}
+use Rattle.exact_scale.proofs.SignLaws.{minus_of-times}
+use Rattle.exact_scale.proofs.ZeroLaws.{point_text-odd, size_text-moved}
 
 -- a point and all digits, where the last is not 0
 pub point_written : (places rest : ℕ) → 0 < places → (places ≡ 0) ⊎ (0 < rest % 10) → 46 ∷ last_digits places rest ≡ point_text places rest

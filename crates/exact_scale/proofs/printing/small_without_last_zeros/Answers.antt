@@ -1,6 +1,6 @@
 use Rattle.std.proofs.Common.{◌≡◌, ◌-◌, ◌*◌, ◌^◌, ◌/◌, suc, ap, ◌∙◌, arith}
-use Rattle.exact_scale.proofs.Powers.{cut_zero}
-use Rattle.exact_scale.proofs.printing.without_last_zeros.Goals as goal
+use Rattle.exact_scale.proofs.PowerLaws.{cut_zero}
+use Rattle.exact_scale.proofs.printing.small_without_last_zeros.Goals as goal
 
 pub loop-places-preserved : goal.loop-places-preserved
 loop-places-preserved c =

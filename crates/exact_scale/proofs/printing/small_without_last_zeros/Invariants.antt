@@ -1,5 +1,5 @@
 use Rattle.std.proofs.Common.{◌≡◌, ◌*◌, ◌^◌, ◌-◌, ◌≤◌}
-use Rattle.exact_scale.proofs.printing.without_last_zeros.Given as goal
+use Rattle.exact_scale.proofs.printing.small_without_last_zeros.Given as goal
 
 -- what was cut off is a power of ten
 abbrev pub invariant-loop-places : goal.invariant-loop-places

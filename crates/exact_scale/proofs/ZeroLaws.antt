@@ -6,7 +6,7 @@ use Rattle.std.proofs.lemmas.List.Folds.{list_all-append}
 use borrow.Author.Tests.{ne_eqb}
 use Rattle.exact_scale.specs.Digits.{decimal_digits, last_digits}
 use Rattle.exact_scale.specs.ShortestText.{without_last_zeros, point_text, size_text}
-use Rattle.exact_scale.proofs.Powers.{whole_moved, rest_moved}
+use Rattle.exact_scale.proofs.PowerLaws.{whole_moved, rest_moved}
 
 abbrev is_zero : ℕ → Bool
 is_zero d = eqb d 48

@@ -1,7 +1,7 @@
 use Rattle.std.proofs.Common.{◌*◌, ◌^◌, ◌≤◌, ◌∙◌, ap, subst, arith}
-use Rattle.exact_scale.proofs.SignificandLemmas.{moves_within, moves_low, moves_high, moves_wide}
-use Rattle.exact_scale.proofs.significand.Significand.moved.Goals as goal
-use Rattle.exact_scale.proofs.significand.Significand.moved.Goals.{then-up-gt18-via-then-up-gt18, then-up-gt18-via-else-up-gt18+then-down-gt-MOST_PLACES}
+use Rattle.exact_scale.proofs.SignificandLaws.{moves_within, moves_low, moves_high, moves_wide}
+use Rattle.exact_scale.proofs.significand.Significand.shift.Goals as goal
+use Rattle.exact_scale.proofs.significand.Significand.shift.Goals.{then-up-gt18-via-then-up-gt18, then-up-gt18-via-else-up-gt18+then-down-gt-MOST_PLACES}
 
 pub returns-then-up-gt18-clause-none : goal.returns-then-up-gt18-clause-none
 returns-then-up-gt18-clause-none c = λ short rise fall m. elim c.then-up-gt18.branch [

@@ -6,10 +6,10 @@ use Rattle.exact_scale.specs.Fraction.{IsLeastDecimal}
 use Rattle.exact_scale.specs.Limits.{IsNarrow, DenotesTooWide}
 use Rattle.exact_scale.specs.Parts.{HasParts, IsSignificand, IsLeastSize, LeastSizeTooWide, Moves, is_minus, capped}
 use Rattle.exact_scale.specs.Spelling.{Sign, NoSign, Plus, Minus, signed, Exponent, fraction_digits, IsDecimalText, Denotes, upward, downward, raised, lowered, value_of}
-use Rattle.exact_scale.proofs.Least.{least_signed, least_once}
-use Rattle.exact_scale.proofs.Powers.{ten_pos, ten_times}
-use Rattle.exact_scale.proofs.Signs.{abs_signed}
-use Rattle.exact_scale.proofs.SpellingLemmas.{spelled_once}
+use Rattle.exact_scale.proofs.LeastLaws.{least_signed, least_once}
+use Rattle.exact_scale.proofs.PowerLaws.{ten_pos, ten_times}
+use Rattle.exact_scale.proofs.SignLaws.{abs_signed}
+use Rattle.exact_scale.proofs.SpellingLaws.{spelled_once}
 
 -- a number under the sign that a flag says
 abbrev pub under_flag : Bool → ℕ → ℤ

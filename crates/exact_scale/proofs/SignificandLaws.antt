@@ -6,9 +6,9 @@ use Rattle.std.proofs.lemmas.Nat.{mod-mul-add}
 use Rattle.std.proofs.lemmas.Bool.{cases_lt}
 use Rattle.exact_scale.specs.Digits.{IsDigit, AllDigits, number}
 use Rattle.exact_scale.specs.Parts.{IsSignificand, IsLeastSize, LeastSizeTooWide, Moves}
-use Rattle.exact_scale.proofs.DigitLemmas.{number-append}
-use Rattle.exact_scale.proofs.Least.{least_places, same_places}
-use Rattle.exact_scale.proofs.Powers.{ten_pos, ten_le, ten_times}
+use Rattle.exact_scale.proofs.DigitLaws.{number-append}
+use Rattle.exact_scale.proofs.LeastLaws.{least_places, same_places}
+use Rattle.exact_scale.proofs.PowerLaws.{ten_pos, ten_le, ten_times}
 
 -- the number of one more digit of a list
 pub number_more : (digits : List ℕ) (i : ℕ) → i < length digits → number (take (i + 1) digits) ≡ number (take i digits) * 10 + (get_or digits i 0 - 48)

@@ -1,5 +1,5 @@
-use Rattle.exact_scale.proofs.SignificandLemmas.{pushed_digit, pushed_far}
-use Rattle.exact_scale.proofs.significand.joined.Goals as goal
+use Rattle.exact_scale.proofs.SignificandLaws.{pushed_digit, pushed_far}
+use Rattle.exact_scale.proofs.significand.join.Goals as goal
 
 pub returns-then-front-lt18 : goal.returns-then-front-lt18
 returns-then-front-lt18 c = λ n s.

@@ -10,12 +10,12 @@ use Rattle.exact_scale.specs.Digits.{AllDigits, number, decimal_digits, last_dig
 use Rattle.exact_scale.specs.Fraction.{IsSame, decimal_fraction}
 use Rattle.exact_scale.specs.Spelling.{Sign, NoSign, Plus, Minus, signed, sign_text, Spelling, fraction_digits, fraction_text, exponent_text, text_of, IsLawful, Spells, raised, lowered, value_of}
 use Rattle.exact_scale.specs.ShortestText.{decimal_text, point_text, minus_of, IsPlain, IsShortestText}
-use Rattle.exact_scale.proofs.DigitLemmas.{number-append, number_below, number_decimal_digits, decimal_digits_are_digits, decimal_digits_some, length-decimal_digits, leading_zero, last_digits_are_digits, length-last_digits, number_last_digits}
-use Rattle.exact_scale.proofs.Least.{least_places}
-use Rattle.exact_scale.proofs.Powers.{ten_pos, ten_times, cancel_ten, cut_zero}
-use Rattle.exact_scale.proofs.Signs.{sign_of, signed-sign_of, minus_of-sign_of, signed_times, minus_of-times, abs_signed, IsSame-sym, IsSame-trans}
-use Rattle.exact_scale.proofs.SpellingLemmas.{spelled_once}
-use Rattle.exact_scale.proofs.TextLemmas.{point_written, last_kept, text_joined}
+use Rattle.exact_scale.proofs.DigitLaws.{number-append, number_below, number_decimal_digits, decimal_digits_are_digits, decimal_digits_some, length-decimal_digits, leading_zero, last_digits_are_digits, length-last_digits, number_last_digits}
+use Rattle.exact_scale.proofs.LeastLaws.{least_places}
+use Rattle.exact_scale.proofs.PowerLaws.{ten_pos, ten_times, cancel_ten, cut_zero}
+use Rattle.exact_scale.proofs.SignLaws.{sign_of, signed-sign_of, minus_of-sign_of, signed_times, minus_of-times, abs_signed, IsSame-sym, IsSame-trans}
+use Rattle.exact_scale.proofs.SpellingLaws.{spelled_once}
+use Rattle.exact_scale.proofs.TextLaws.{point_written, last_kept, text_joined}
 
 -- a size over a power of ten, cut down to where its last digit is not 0 or no place is left
 pub record Cut (size k : ℕ) : Type 0 where
