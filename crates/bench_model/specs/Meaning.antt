@@ -1,9 +1,11 @@
 -- What a frame's bytes mean under a database, after the DBC and LDF formats, and for J1939 buses after
 -- SAE J1939-21's parameter group numbers.
-use Rattle.std.specs.Prelude.{ℕ, ◌*◌, ◌/◌, ◌%◌, ◌^◌, ◌==◌, ◌&&◌, ℤ, pos, negsuc, Bool, true, false, List, [], find, Option, Some, None, slice_get, nat_le, nat_lt, if◌then◌else◌}
-use Rattle.std.specs.List.{filter_map}
+use Rattle.std.specs.Prelude.{ℕ, ◌*◌, ◌/◌, ◌%◌, ◌^◌, ◌==◌, ◌&&◌, ℤ, pos, negsuc, Bool, true, false, List, [], find, map, Option, Some, None, slice_get, nat_le, nat_lt, if◌then◌else◌}
+use Rattle.std.specs.List.{filter_map, enumerate_from}
 use Rattle.std.specs.Ordering.{int_eq}
 use Rattle.std.specs.Option.{option_map}
+use Rattle.multiplex_tree.specs.declared.mark.Parent.{Parent}
+use Rattle.multiplex_tree.specs.Activity.{is_active}
 use Rattle.bench_model.specs.declared.database.Key.{Key}
 use Rattle.bench_model.specs.declared.database.Kind.{Kind}
 use Rattle.bench_model.specs.declared.database.Kind.TheVariants as kind
@@ -17,13 +19,13 @@ use Rattle.bench_model.specs.declared.database.Message.{Message}
 use Rattle.bench_model.specs.declared.database.Database.{Database}
 use Rattle.bench_model.specs.declared.database.Bus.{Bus}
 use Rattle.bench_model.specs.declared.database.Bench.{Bench}
-use Rattle.bench_model.specs.declared.plain.Physical.{Physical}
+use Rattle.exact_scale.specs.declared.printing.Exact.{Exact}
 use Rattle.bench_model.specs.declared.reading.Ask.{Ask}
 use Rattle.bench_model.specs.declared.reading.Ask.TheVariants as ask
 use Rattle.bench_model.specs.declared.reading.SignalValue.{SignalValue}
 use Rattle.bench_model.specs.declared.reading.Plain.{Plain}
 use Rattle.bench_model.specs.Raw.{raw_value}
-use Rattle.bench_model.specs.Value.{scaled, whole}
+use Rattle.bench_model.specs.Value.{scaled_value, whole}
 
 -- equal booleans
 abbrev pub same_bool : Bool → Bool → Bool
@@ -62,11 +64,17 @@ matching kind.J1939 (ask.Group pgn) ms = find (is_in_group pgn) ms
 matching k (ask.Frame key) ms = find (has_key key) ms
 matching k (ask.Group pgn) ms = None
 
+-- what a coding makes of a raw value: the physical value, its unit, and a label where there is one
+pub record Physical : Type 0 where
+  pub value : Exact
+  pub unit : List ℕ
+  pub label : Option (List ℕ)
+
 -- whether a label stands for this raw value
 abbrev pub is_label_of : ℤ → Label → Bool
 is_label_of raw label = int_eq label.raw raw
 
--- a number of 64 bits at most that a raw value may be compared with: a negative one is none
+-- whether a raw value lies between two numbers, both included; one below 0 never does
 abbrev pub is_between : ℕ → ℕ → ℤ → Bool
 is_between low high (pos n) = nat_le low n && nat_le n high
 is_between low high (negsuc n) = false
@@ -78,31 +86,44 @@ covers raw (entry.Physical low high scale unit) = is_between low high raw
 covers raw entry.Plain = true
 
 -- what an entry makes of a raw value; where no entry covers it, the raw value stands for itself
-abbrev pub listed : ℤ → Option Entry → Physical
-listed raw (Some (entry.Logical value text)) = record { value = whole raw; unit = []; label = text }
-listed raw (Some (entry.Physical low high scale unit)) = record { value = scaled scale raw; unit = unit; label = None }
-listed raw (Some entry.Plain) = record { value = whole raw; unit = []; label = None }
-listed raw None = record { value = whole raw; unit = []; label = None }
+abbrev pub entry_meaning : ℤ → Option Entry → Physical
+entry_meaning raw (Some (entry.Logical value text)) = record { value = whole raw; unit = []; label = text }
+entry_meaning raw (Some (entry.Physical low high scale unit)) = record { value = scaled_value scale raw; unit = unit; label = None }
+entry_meaning raw (Some entry.Plain) = record { value = whole raw; unit = []; label = None }
+entry_meaning raw None = record { value = whole raw; unit = []; label = None }
 
 -- what a coding makes of a raw value: a scaling and the first label of the value, or the first entry that covers it
-abbrev pub coded : Coding → ℤ → Physical
-coded (Scaled scale unit labels) raw =
-    record { value = scaled scale raw; unit = unit; label = option_map (λ l. l.text) (find (is_label_of raw) labels) }
-coded (Listed entries) raw = listed raw (find (covers raw) entries)
+abbrev pub coding_meaning : Coding → ℤ → Physical
+coding_meaning (Scaled scale unit labels) raw =
+    record { value = scaled_value scale raw; unit = unit; label = option_map (λ l. l.text) (find (is_label_of raw) labels) }
+coding_meaning (Listed entries) raw = entry_meaning raw (find (covers raw) entries)
 
 -- the value of a signal whose raw value this is
 abbrev pub physical : Signal → ℤ → SignalValue
-physical s raw = let p = coded s.coding raw in
+physical s raw = let p = coding_meaning s.coding raw in
     record { name = s.name; raw = raw; value = p.value; unit = p.unit; label = p.label }
 
 -- a signal's value in these bytes, absent where its raw value is
 abbrev pub signal_value : List ℕ → Signal → Option SignalValue
 signal_value bytes s = option_map (physical s) (raw_value s bytes)
 
--- what the bytes mean as this message: each signal that is present, in file order. (No signal has a
--- parent in this version of the model, so each is active.)
+-- the raw values of a message's signals, by their places
+abbrev pub raw_values : List ℕ → List Signal → List (Option ℤ)
+raw_values bytes signals = map (λ s. raw_value s bytes) signals
+
+-- the value of the signal at this place where it is active under these raw values (a law of multiplex_tree,
+-- `activity_by_parents`, says that the test is the relation of activity)
+abbrev pub active_value : List ℕ → List (Option Parent) → List (Option ℤ) → ℕ × Signal → Option SignalValue
+active_value bytes parents raws x = if is_active parents raws x.0 then signal_value bytes x.1 else None
+
+-- the values of the signals that are active and present, in file order
+unfoldable pub active_values : List ℕ → Message → List SignalValue
+active_values bytes m =
+    filter_map (active_value bytes m.tree.parents (raw_values bytes m.signals)) (enumerate_from 0 m.signals)
+
+-- what the bytes mean as this message
 abbrev pub message_meaning : List ℕ → Message → Plain
-message_meaning bytes m = record { name = m.name; signals = filter_map (signal_value bytes) m.signals }
+message_meaning bytes m = record { name = m.name; signals = active_values bytes m }
 
 -- what bytes mean on a bus of this kind under a database, where a message matches
 abbrev pub meaning : Kind → Database → Ask → List ℕ → Option Plain

@@ -1,7 +1,8 @@
 //! Databases of messages and their signals, and the buses of a bench.
 
-use crate::{Scale, Text};
-use multiplex_tree::List;
+use crate::Text;
+use exact_scale::Scale;
+use multiplex_tree::{List, Tree};
 
 /// The identifier of a message or frame: 29 bits where `extended`, else 11.
 #[derive(Clone, Copy, Debug, PartialEq, Eq)]
@@ -77,7 +78,7 @@ pub struct Signal {
     pub order: Order,
     /// Whether the raw value is a two's complement number.
     pub signed: bool,
-    /// Whether the bits are a floating point number. Decoding does not ask this yet.
+    /// Whether the bits are a floating point number, which `check` refuses.
     pub float: bool,
     pub coding: Coding,
 }
@@ -90,6 +91,8 @@ pub struct Message {
     /// The length in bytes that the database states. Decoding asks the frame's own bytes alone.
     pub length: u32,
     pub signals: List<Signal>,
+    /// Which signal selects which: the parent of each signal, by the signals' places.
+    pub tree: Tree,
 }
 
 /// The messages of one bus, in the order of their file.

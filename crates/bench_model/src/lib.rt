@@ -1,27 +1,48 @@
 //! The model of a bench: databases of messages and signals, the plain decoding of a frame under them, and
 //! the records and items that decoding gives.
 //!
-//! `dbc_grammar` makes its values and `bench_server` stands on it; it takes `List` from `multiplex_tree`. Faster
-//! decoders are to be proved equal to `Bench::plain`.
+//! Readers of databases make its values and hand them to `check`; decoders, rings, images and printers speak of its
+//! types. It stands on `exact_scale` (scalings and exact values) and `multiplex_tree` (lists, and which signals are
+//! active). Faster decoders are to be proved equal to `Bench::plain`.
 //!
-//! Main theorem: unless memory runs out, `Bench::plain` gives exactly the meaning of a frame's bytes: the message
-//! that matches, and its signals in file order, each with its raw value bit by bit, its exact value, its unit and
-//! its label.
+//! Main theorem: unless memory runs out, `Bench::plain` gives exactly the meaning of a frame's bytes: the message that
+//! matches, and in file order its signals that are active and whose bits are there, each with its raw value bit by bit,
+//! its exact value, its unit and its label; and `check` accepts exactly the valid databases and names the first fault of
+//! any other.
 #![tactic(auto)]
 
+mod check_laws;
+mod checking;
+mod coding;
+mod copies;
 mod database;
+mod duplicates;
+mod fault;
+mod floats;
 mod laws;
+mod limits;
+mod matching;
+mod names;
 mod plain;
 mod raw;
 mod reading;
-mod scale;
+mod refusal;
+mod replace;
+mod sizes;
 mod text;
+mod valid;
 
+pub use check_laws::{valid_is_decodable, valid_keeps_rules, verdict_is_unique};
+pub use checking::check;
 pub use database::{Bench, Bus, Coding, Database, Entry, Key, Kind, Label, Message, Order, Signal};
-pub use laws::{intel_weights, motorola_places};
-pub use reading::{Ask, Body, CutCause, Item, Plain, Reading, SignalValue};
-pub use scale::{Exact, Scale};
+pub use exact_scale::{Exact, Scale};
+pub use fault::{CheckFault, CheckWhy};
+pub use laws::{bits_by_shift, bytes_as_number, intel_weights, motorola_places, raw_by_shift};
+pub use names::names_in_a_meaning;
+pub use reading::{Ask, Body, CutCause, Item, Missed, Plain, Reading, SignalValue};
+pub use replace::Change;
 pub use text::Text;
+pub use valid::Valid;
 
 #[cfg(test)]
 mod tests;

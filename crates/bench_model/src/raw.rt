@@ -2,19 +2,17 @@
 
 ghost use Rattle.std.specs.Prelude.{[], ◌∷◌, ◌≡◌, ◌+◌, ◌*◌, ◌-◌, ◌≤◌, ◌<◌, ◌^◌, true, false, pos, map, MatchOption, IfSome};
 ghost use Rattle.bench_model.specs.Raw.{bit as bit_of, first_place as first_of, next_place as next_of, places_from, places, weight, is_within, number_of, raw_value};
-ghost use Rattle.bench_model.specs.Limits.{IsLawfulSignal, IsRaw};
+ghost use Rattle.exact_scale.specs.Limits.{IsRawValue};
+ghost use Rattle.bench_model.specs.Decodable.{IsDecodableSignal};
 
+use crate::sizes::{LAST_START, MOST_BITS};
 use crate::{Order, Signal};
-
-/// The greatest place that a signal may start at: the last bit of a message of 1,785 bytes, 255 packets of 7 bytes
-/// (SAE J1939-21).
-const LAST_START: u32 = 14_279;
 
 /// Where a signal's most significant bit stands.
 fn first_place(order: Order, start: u32, size: u32) -> u32
     requires start { start ≤ LAST_START }
     requires some_bits { 1 ≤ size }
-    requires size { size ≤ 64 }
+    requires size { size ≤ MOST_BITS }
     ensures place { result ≡ first_of order start size }
     ensures bound { result ≤ LAST_START + 63 }
 {
@@ -44,7 +42,8 @@ fn next_place(order: Order, place: u32) -> u32
 
 /// The bit at a place of the bytes, 0 or 1; none where it lies past them.
 fn bit_at(bytes: &[u8], place: u32) -> Option<u64>
-    ensures { MatchOption result (is_within bytes.now (place ∷ []) ≡ false) (λ b. (is_within bytes.now (place ∷ []) ≡ true) × (b ≡ bit_of bytes.now place) × (b < 2)) }
+    ensures { MatchOption result (is_within bytes.now (place ∷ []) ≡ false)
+        (λ b. (is_within bytes.now (place ∷ []) ≡ true) × (b ≡ bit_of bytes.now place) × (b < 2)) }
 {
     let byte = *bytes.get((place / 8) as usize)?;
     Some(u64::from((byte >> (place % 8)) & 1))
@@ -53,9 +52,9 @@ fn bit_at(bytes: &[u8], place: u32) -> Option<u64>
 /// The bits of so many places from `first` on, as a number.
 fn bits_from(order: Order, first: u32, size: u32, bytes: &[u8]) -> Option<u64>
     requires first { first ≤ LAST_START + 63 }
-    requires size { size ≤ 64 }
-    ensures { MatchOption result (is_within bytes.now (places_from order first size) ≡ false) (λ n.
-        (is_within bytes.now (places_from order first size) ≡ true) × (n ≡ weight (map (bit_of bytes.now) (places_from order first size))) × (n < 2 ^ size)) }
+    requires size { size ≤ MOST_BITS }
+    ensures { let bits = places_from order first size in MatchOption result (is_within bytes.now bits ≡ false)
+        (λ n. (is_within bytes.now bits ≡ true) × (n ≡ weight (map (bit_of bytes.now) bits)) × (n < 2 ^ size)) }
 {
     let mut place = first;
     let mut bits = 0u64;
@@ -71,7 +70,7 @@ fn bits_from(order: Order, first: u32, size: u32, bytes: &[u8]) -> Option<u64>
 
 /// The number `2^size`.
 fn power_of_two(size: u32) -> i128
-    requires { size ≤ 64 }
+    requires { size ≤ MOST_BITS }
     ensures { result ≡ pos (2 ^ size) }
 {
     1i128 << size
@@ -79,9 +78,11 @@ fn power_of_two(size: u32) -> i128
 
 /// The number of these bits, the highest of which is `top`.
 fn number(signed: bool, size: u32, top: u64, bits: u64) -> i128
-    requires { size ≤ 64 }
+    requires some_bits { 1 ≤ size }
+    requires size { size ≤ MOST_BITS }
+    requires top { top ≡ 1 → 2 ^ (size - 1) ≤ bits }
     ensures value { result ≡ number_of signed size top bits }
-    ensures bound { IsRaw result }
+    ensures bound { IsRawValue result }
 {
     if signed && top == 1 {
         i128::from(bits) - power_of_two(size)
@@ -92,9 +93,9 @@ fn number(signed: bool, size: u32, top: u64, bits: u64) -> i128
 
 /// The raw value of a signal in these bytes; none where one of its bits lies past them.
 pub(crate) fn raw_of(signal: &Signal, bytes: &[u8]) -> Option<i128>
-    requires { IsLawfulSignal signal.now }
+    requires { IsDecodableSignal signal.now }
     ensures value { result ≡ raw_value signal.now bytes.now }
-    ensures bound { IfSome result IsRaw }
+    ensures bound { IfSome result IsRawValue }
 {
     let first = first_place(signal.order, signal.start, signal.size);
     let Some(bits) = bits_from(signal.order, first, signal.size, bytes) else {

@@ -1,6 +1,7 @@
 //! What decoding gives: decoded messages, records of a log, and the items of a session.
 
-use crate::{Exact, Key, Text};
+use crate::{Key, Text};
+use exact_scale::Exact;
 use multiplex_tree::List;
 
 /// A signal's value in one frame.
@@ -103,7 +104,24 @@ pub struct Reading {
     pub body: Body,
 }
 
-/// What a subscriber is told of a bus.
+/// Records that a subscriber lost, one after another, since it was too slow.
+#[derive(Clone, Copy, Debug, PartialEq, Eq)]
+pub struct Missed {
+    /// The number of the first.
+    pub first: u64,
+    /// How many they are.
+    pub count: u64,
+    /// The microseconds of the first record.
+    pub first_micros: u64,
+    /// The microseconds of the last record.
+    pub last_micros: u64,
+    /// The version of the first record.
+    pub first_version: u32,
+    /// The version of the last record.
+    pub last_version: u32,
+}
+
+/// What a subscriber receives of a bus.
 #[derive(Debug, Drop)]
 pub enum Item {
     /// The stretch begins at this number, in this turn of the subscriber's place.
@@ -111,7 +129,7 @@ pub enum Item {
     /// A record.
     Reading { reading: Reading },
     /// Records that were lost, since the subscriber was too slow.
-    Gap { bus: u32, first: u64, count: u64 },
+    Gap { bus: u32, missed: Missed },
     /// The bus has ended, after this many records.
     End { bus: u32, number: u64 },
 }

@@ -1,4 +1,4 @@
-use Rattle.bench_model.proofs.IntelWeights as law
+use Rattle.bench_model.proofs.IntelWeightLaws as law
 use Rattle.bench_model.proofs.laws.intel_weights.Goals as goal
 
 pub returns-clause-places : goal.returns-clause-places

@@ -1,5 +1,5 @@
 use Rattle.std.proofs.Common.{arith, ◌∙◌, sym, ◌≡◌}
-use Rattle.bench_model.proofs.Places.{small-step, weight-step, within-step, within-not, none_left}
+use Rattle.bench_model.proofs.PlaceLaws.{small-step, weight-step, within-step, within-not, none_left}
 use Rattle.bench_model.proofs.raw.bits_from.Goals as goal
 
 pub loop-preserved : goal.loop-preserved
