@@ -5,7 +5,7 @@ pub mod FrameLaws
 pub mod LogLaws
 pub mod TextLaws
 pub mod WordLaws
-pub mod WholeLaws
+pub mod FrameBodyLaws
 pub mod WritingLaws
 pub mod Sequences
 pub mod NameLaws

@@ -10,7 +10,7 @@ use Rattle.bench_model.specs.declared.reading.Body.TheVariants as body
 use Rattle.bench_model.specs.declared.reading.Reading.{Reading}
 use Rattle.bench_model.specs.declared.reading.Item.{Item}
 use Rattle.bench_model.specs.declared.reading.Item.TheVariants as item
-use Rattle.bench_model.specs.Value.{exact_text}
+use Rattle.exact_scale.specs.ShortestText.{decimal_text}
 
 -- a word behind a blank
 abbrev pub behind_blank : List ℕ → List ℕ
@@ -55,7 +55,9 @@ label_words (Some label) = quoted label ∷ []
 
 -- the line of a signal
 abbrev pub signal_line : SignalValue → List ℕ
-signal_line s = line_of (codes "s" ∷ s.name ∷ signed_decimal s.raw ∷ exact_text s.value ∷ quoted s.unit ∷ label_words s.label)
+signal_line s =
+    line_of (codes "s" ∷ s.name ∷ signed_decimal s.raw ∷ decimal_text s.value.num s.value.k ∷ quoted s.unit
+    ∷ label_words s.label)
 
 abbrev pub signal_lines : List SignalValue → List ℕ
 signal_lines signals = flat_map signal_line signals
@@ -95,5 +97,5 @@ reading_text bus r = body_text bus r r.body
 abbrev pub item_text : List ℕ → Item → List ℕ
 item_text bus (item.Start place number turn) = line_of (codes "start" ∷ bus ∷ decimal number ∷ [])
 item_text bus (item.Reading reading) = reading_text bus reading
-item_text bus (item.Gap place first count) = line_of (codes "g" ∷ bus ∷ decimal first ∷ decimal count ∷ [])
+item_text bus (item.Gap place missed) = line_of (codes "g" ∷ bus ∷ decimal missed.first ∷ decimal missed.count ∷ [])
 item_text bus (item.End place number) = line_of (codes "end" ∷ bus ∷ decimal number ∷ [])

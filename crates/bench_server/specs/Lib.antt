@@ -15,7 +15,7 @@ pub mod FaultLine
 pub mod Tool
 pub mod Writing
 pub mod Records
-pub mod WholeBench
+pub mod FrameBody
 pub mod Ends
 pub mod BusEnds
 pub mod ToolEnds

@@ -2,11 +2,10 @@
 
 ghost use Rattle.std.specs.Prelude.{◌≡◌, ◌⊎◌, ◌≤◌, ◌<◌, [], ◌∷◌, length, vec_len, vec_capacity, true, IfOk, IfErr, IfSome, MatchResult, All, List, ℕ};
 ghost use Rattle.port_io.specs.Library.{named, strays_after};
-ghost use Rattle.bench_model.specs.Limits.{IsLawfulDatabase};
-ghost use Rattle.dbc_grammar.specs.Whole.{HasWholeScalings};
-ghost use Rattle.bench_server.specs.BenchFile.{is_file_name, IsLawfulBus};
+ghost use Rattle.bench_model.specs.Check.{IsValid};
+ghost use Rattle.bench_model.specs.ValidBench.{IsValidBench};
+ghost use Rattle.bench_server.specs.BenchFile.{is_bus_name, is_file_name, IsLawfulBus};
 ghost use Rattle.bench_server.specs.BenchView.{files_of};
-ghost use Rattle.bench_server.specs.WholeBench.{IsWholeBench};
 ghost use Rattle.bench_server.specs.Tool.{bench_of};
 ghost use Rattle.bench_server.specs.BusEnds.{ReadsDatabase, FailsAsDatabase, ReadsLog, FailsAsOpened, AreLogsOf, AreRead, status_of, HasBusFiles};
 ghost use Rattle.bench_server.specs.Ends.{HasFailed, EndsBus, stands};
@@ -32,8 +31,7 @@ fn read_database<B: Library>(
 ) -> Result<Database, Status>
     requires { is_file_name name.now ≡ true }
     ensures database { IfOk result (λ database. IfSome (B.files library.old) (λ files. ReadsDatabase files name.now database)) }
-    ensures lawful { IfOk result IsLawfulDatabase }
-    ensures whole { IfOk result HasWholeScalings }
+    ensures valid { IfOk result IsValid }
     ensures fault { IfErr result (FailsAsDatabase (B.files library.old) name.now
         (record { before = B.open_faults library.old; now = B.open_faults library.new })
         (record { before = B.more_faults library.old; now = B.more_faults library.new })) }
@@ -56,10 +54,10 @@ fn read_database<B: Library>(
 
 /// A bench of one CAN bus with this database.
 fn one_bus(alloc: Global, name: &[u8], database: Database) -> Result<Bench, AllocError>
-    requires lawful { IsLawfulDatabase database }
-    requires whole { HasWholeScalings database }
+    requires name { is_bus_name name.now ≡ true }
+    requires database { IsValid database }
     ensures bench { IfOk result (λ bench. bench ≡ bench_of name.now database) }
-    ensures whole { IfOk result IsWholeBench }
+    ensures valid { IfOk result IsValidBench }
 {
     let mut buses = Vec::new(alloc);
     buses.push(Bus {

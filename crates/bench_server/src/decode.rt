@@ -1,13 +1,12 @@
 //! The text of a bus: its start, its decoded list and its end.
 
 ghost use Rattle.std.specs.Prelude.{◌≡◌, ◌<◌, ◌++◌, length, All, IfOk};
-ghost use Rattle.bench_model.specs.Limits.{IsLawfulDatabase};
 ghost use Rattle.bench_model.specs.Meaning.{bench_meaning};
 ghost use Rattle.bench_model.specs.declared.reading.Ask.TheVariants as Asks;
+ghost use Rattle.bench_model.specs.ValidBench.{IsValidBench};
 ghost use Rattle.bench_server.specs.ItemText.{reading_text};
 ghost use Rattle.bench_server.specs.Decoded.{reading_of, body_of, bus_text};
 ghost use Rattle.bench_server.specs.Records.{records_text, start_text, end_text};
-ghost use Rattle.bench_server.specs.WholeBench.{IsWholeBench};
 ghost use Rattle.bench_server.specs.Writing.{WritesText};
 
 use crate::Status;
@@ -37,7 +36,7 @@ fn reading_of(
     number: u64,
     frame: &Frame,
 ) -> Result<Reading, AllocError>
-    requires { IsWholeBench bench.now }
+    requires { IsValidBench bench.now }
     ensures { IfOk result (λ reading. reading ≡ reading_of bench.now 0 0 number frame.now) }
 {
     let plain = bench.plain(alloc, 0, Ask::Frame { key: frame.key }, frame.bytes.bytes())?;
@@ -58,7 +57,7 @@ fn record_text(
     number: u64,
     frame: &Frame,
 ) -> Result<Vec<u8>, AllocError>
-    requires { IsWholeBench bench.now }
+    requires { IsValidBench bench.now }
     ensures { IfOk result (λ text. text.items ≡ reading_text name.now (reading_of bench.now 0 0 number frame.now)) }
 {
     let reading = reading_of(alloc, bench, number, frame)?;
@@ -85,7 +84,7 @@ fn write_records<K: Sink>(
     frames: &[Frame],
     out: &mut K,
 ) -> Result<(), Status>
-    requires { IsWholeBench bench.now }
+    requires { IsValidBench bench.now }
     ensures { WritesText (K.written out.old) (K.written out.new) (K.write_faults out.old) (K.write_faults out.new) result (records_text bench.now name.now 0 frames.now) }
 {
     for (number, frame) in frames.iter().enumerate() {
@@ -124,7 +123,7 @@ pub(crate) fn write_bus<K: Sink>(
     frames: &[Frame],
     out: &mut K,
 ) -> Result<(), Status>
-    requires { IsWholeBench bench.now }
+    requires { IsValidBench bench.now }
     ensures { WritesText (K.written out.old) (K.written out.new) (K.write_faults out.old) (K.write_faults out.new) result (bus_text bench.now 0 name.now frames.now) }
 {
     let start = start_text(alloc, name, frames)?;

@@ -4,7 +4,7 @@ ghost use Rattle.std.specs.Prelude.{◌≡◌, ◌≤◌, ◌++◌, [], ◌∷�
 ghost use Rattle.bench_model.specs.declared.reading.Body.TheVariants as Bodies;
 ghost use Rattle.bench_model.specs.declared.reading.Item.TheVariants as Items;
 ghost use Rattle.bench_server.specs.ItemText.{line_of, hex_digit, hex_digits, hex_bytes, key_text, quoted_byte, quoted, signal_line, signal_lines, body_text, reading_text, item_text};
-ghost use Rattle.bench_server.specs.WholeBench.{IsFrameBody};
+ghost use Rattle.bench_server.specs.FrameBody.{IsFrameBody};
 ghost use Rattle.bench_server.specs.TextView.{texts, AreDigitsOf};
 
 use bench_model::{Body, Key, Reading, SignalValue, Text};
@@ -94,12 +94,11 @@ fn quoted_text(alloc: Global, text: &[u8]) -> Result<Vec<u8>, AllocError>
 
 /// Appends the line of a signal.
 fn push_signal(alloc: Global, out: &mut Vec<u8>, signal: &SignalValue) -> Result<(), AllocError>
-    requires { signal.now.value.k ≡ 0 }
     ensures { OnOk result (out.new.items ≡ out.old.items ++ signal_line signal.now) }
 {
     let raw = signal.raw.to_string(alloc)?;
     let mut value = Vec::new(alloc);
-    signal.value.append(alloc, &mut value)?;
+    signal.value.append(&mut value)?;
     let unit = quoted_text(alloc, signal.unit.bytes())?;
     let name = signal.name.bytes();
     match &signal.label {
@@ -113,7 +112,6 @@ fn push_signal(alloc: Global, out: &mut Vec<u8>, signal: &SignalValue) -> Result
 
 /// Appends the lines of signals.
 fn push_signals(alloc: Global, out: &mut Vec<u8>, signals: &[SignalValue]) -> Result<(), AllocError>
-    requires { All (λ s. s.value.k ≡ 0) signals.now }
     ensures { OnOk result (out.new.items ≡ out.old.items ++ signal_lines signals.now) }
 {
     for signal in signals {
@@ -150,7 +148,6 @@ fn push_message(
     name: &Text,
     signals: &[SignalValue],
 ) -> Result<(), AllocError>
-    requires { All (λ s. s.value.k ≡ 0) signals.now }
     ensures { OnOk result (out.new.items ≡ out.old.items ++ body_text bus.now reading.now (Bodies.Message name.now signals.now)) }
 {
     let digits = record_digits(alloc, reading)?;

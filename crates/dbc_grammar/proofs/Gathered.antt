@@ -1,5 +1,8 @@
 -- What one more statement adds to the messages.
-use Rattle.std.proofs.Common.{◌≡◌, List, [], ◌∷◌, ◌++◌, refl, ap, ◌∙◌}
+use Rattle.std.proofs.Common.{◌≡◌, List, [], ◌∷◌, ◌++◌, None, length, refl, sym, ap, ◌∙◌, length-append}
+use Rattle.std.specs.Prelude.{replicate, Option}
+use Rattle.std.proofs.lemmas.List.{replicate-append-replicate}
+use Rattle.multiplex_tree.specs.declared.mark.Parent.{Parent}
 use Rattle.bench_model.specs.declared.database.Message.{Message}
 use Rattle.bench_model.specs.declared.database.Signal.{Signal}
 use Rattle.dbc_grammar.specs.Statement.{Statement, Blank, Version, Begins, Adds, MessageLine, SignalLine, signal_of, message_of, signals_before_next, gather}
@@ -48,10 +51,15 @@ signals-adds (Begins h ∷ later) g = refl
 signals-adds (Adds f ∷ later) g =
     ap (λ ss. signal_of f ∷ ss) (signals-adds later g) ∙ joined-cons (signal_of g) (signal_of f) (signals_before_next later) (gather later)
 
+-- one more signal without parent
+pub parents-push : (s : Signal) (signals : List Signal) → replicate (length (signals ++ s ∷ [])) None ≡ replicate {A = Option Parent} (length signals) None ++ None ∷ []
+parents-push s signals =
+    rw (length-append signals (s ∷ [])) (sym (replicate-append-replicate (length signals) 1 None))
+
 onto_joined : (s : Signal) (h : MessageLine) (signals : List Signal) (messages : List Message)
     → message_of h (joined s signals messages) ∷ onto_last s messages ≡ onto_last s (message_of h signals ∷ messages)
 unfolding onto_last
-onto_joined s h signals [] = refl
+onto_joined s h signals [] = rw (parents-push s signals) refl
 onto_joined s h signals (m ∷ later) = refl
 
 gather-blank : (said : List Statement) → gather (said ++ Blank ∷ []) ≡ gather said

@@ -5,5 +5,9 @@ pub mod Outcomes
 pub mod LineSpelling
 pub mod StatementSpelling
 pub mod TextLaws
-pub mod FitLaws
+pub mod EachAfterLaws
+pub mod NoParentLaws
+pub mod RuleLaws
+pub mod CountLaws
+pub mod ValidLaws
 pub mod ReadLaws

@@ -1,19 +1,20 @@
 -- What follows of a file from what reading its lines gives.
-use Rattle.std.proofs.Common.{◌⊎◌, ◌≡◌, ℕ, ◌≤◌, List, [], length, All, Result, Ok, Err, refl, sym, ap, subst, ◌∙◌, arith, inl, inr}
+use Rattle.std.proofs.Common.{◌⊎◌, ◌≡◌, ℕ, ◌≤◌, List, [], length, Result, Ok, Err, refl, sym, ap, subst, ◌∙◌, arith, inl, inr}
 use Rattle.std.proofs.lemmas.Bool.{cases_lt}
 use Rattle.byte_forms.specs.Lines.{all_lines}
 use Rattle.bench_model.specs.declared.database.Message.{Message}
 use Rattle.bench_model.specs.declared.database.Database.{Database}
-use Rattle.bench_model.specs.Limits.{IsLawfulMessage}
+use Rattle.bench_model.specs.Check.{IsValid}
 use Rattle.dbc_grammar.specs.declared.fault.DbcFault.{DbcFault}
 use Rattle.dbc_grammar.specs.declared.fault.DbcFault.TheVariants as faults
+use Rattle.dbc_grammar.specs.Statement.{gather}
 use Rattle.dbc_grammar.specs.Lawful.{IsFirstFault}
 use Rattle.dbc_grammar.specs.Reading.{outcome}
 use Rattle.dbc_grammar.specs.Gives.{Names}
-use Rattle.dbc_grammar.specs.Whole.{HasWholeSignals}
 use Rattle.dbc_grammar.specs.Contract.{byte_limit, SpellsDatabase, IsRefusedAt, HasFault, IsLineOrMemory}
+use Rattle.dbc_grammar.proofs.RuleLaws.{gather-good}
+use Rattle.dbc_grammar.proofs.ValidLaws.{good-valid}
 use Rattle.dbc_grammar.proofs.TextLaws.{text-read, text-lawful, text-stopped, text-faulty}
-use Rattle.dbc_grammar.proofs.FitLaws.{gather-fits, gather-whole}
 
 -- the database of these messages
 abbrev pub database : List Message → Database
@@ -50,15 +51,11 @@ pub read_not_refused : (bytes : List ℕ) (messages : List Message) → length b
 read_not_refused bytes messages short e line refused =
     absurd (cc (text-faulty (all_lines bytes) line (refused_line bytes line short refused)))
 
-pub read-fits : (bytes : List ℕ) (messages : List Message) → outcome [] 0 (all_lines bytes) ≡ Ok messages → All IsLawfulMessage messages
-read-fits bytes messages e =
+-- what is read is a valid database
+pub read-valid : (bytes : List ℕ) (messages : List Message) → outcome [] 0 (all_lines bytes) ≡ Ok messages → IsValid (database messages)
+read-valid bytes messages e =
     let read = text-read (all_lines bytes) messages e in
-    subst (λ (ms : List Message). All IsLawfulMessage ms) (sym read.2) (gather-fits (all_lines bytes) read.0 read.1)
-
-pub read-whole : (bytes : List ℕ) (messages : List Message) → outcome [] 0 (all_lines bytes) ≡ Ok messages → All HasWholeSignals messages
-read-whole bytes messages e =
-    let read = text-read (all_lines bytes) messages e in
-    subst (λ (ms : List Message). All HasWholeSignals ms) (sym read.2) (gather-whole read.0)
+    subst (λ (ms : List Message). IsValid (database ms)) (sym read.2) (good-valid (gather read.0) (gather-good (all_lines bytes) read.0 read.1))
 
 -- ---- after a fault
 

@@ -1,17 +1,13 @@
 -- Which texts are databases, and which line of another text is the first faulty one.
 use Rattle.std.specs.Prelude.{◌≡◌, ◌+◌, ◌==◌, ◌&&◌, ℕ, Bool, true, false, not, List, [], ◌∷◌, ◌++◌, length, nat_lt}
 use Rattle.std.specs.List.{list_any}
-use Rattle.std.specs.Str.{bytes_eq}
 use Rattle.bench_model.specs.declared.database.Message.{Message}
-use Rattle.bench_model.specs.declared.database.Signal.{Signal}
+use Rattle.bench_model.specs.Check.{has_name}
 use Rattle.dbc_grammar.specs.Statement.{Statement, Blank, Version, Begins, Adds, gather}
 use Rattle.dbc_grammar.specs.Spelling.{Spells}
 
 abbrev pub has_id : ℕ → Message → Bool
 has_id id m = m.key.id == id
-
-abbrev pub has_name : List ℕ → Signal → Bool
-has_name name s = bytes_eq name s.name
 
 -- whether the last message can take a signal of this name: it has fewer than 1,024 signals, none of them of
 -- this name; where there is no message, none can

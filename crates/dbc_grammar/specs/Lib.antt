@@ -6,5 +6,4 @@ pub mod Reading
 pub mod Views
 pub mod Reader
 pub mod Gives
-pub mod Whole
 pub mod Contract

@@ -11,6 +11,7 @@ closed_message o = record {
   key = record { extended = false; id = o.id };
   length = o.byte_count;
   signals = o.signals.items;
+  tree = record { parents = o.parents.items };
 }
 
 abbrev pub open_messages : Option OpenMessage → List Message

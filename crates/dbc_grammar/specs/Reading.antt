@@ -92,10 +92,14 @@ statement_after messages line = do
   s ← statement_of line
   if may_follow messages s then Some s else None
 
+-- the message with one more signal, which has no parent
+abbrev pub with_signal : Signal → Message → Message
+with_signal s m = record m { signals = m.signals ++ s ∷ []; tree = record { parents = m.tree.parents ++ None ∷ [] } }
+
 -- a signal put below the last message
 unfoldable pub onto_last : Signal → List Message → List Message
 onto_last s [] = []
-onto_last s (m ∷ []) = record m { signals = m.signals ++ s ∷ [] } ∷ []
+onto_last s (m ∷ []) = with_signal s m ∷ []
 onto_last s (m ∷ n ∷ later) = m ∷ onto_last s (n ∷ later)
 
 -- the messages after one more statement

@@ -1,5 +1,5 @@
 -- What the lines of a DBC file say, and the database that they make.
-use Rattle.std.specs.Prelude.{ℕ, ℤ, false, List, [], ◌∷◌}
+use Rattle.std.specs.Prelude.{ℕ, ℤ, false, List, [], ◌∷◌, None, length, replicate}
 use Rattle.bench_model.specs.declared.database.Order.TheVariants.{Intel}
 use Rattle.bench_model.specs.declared.database.Coding.TheVariants.{Scaled}
 use Rattle.bench_model.specs.declared.database.Signal.{Signal}
@@ -39,13 +39,14 @@ signal_of f = record {
   coding = Scaled (record { factor = f.factor; offset = f.offset; k = 0 }) f.unit [];
 }
 
--- the message of a line and these signals
+-- the message of a line and these signals, none of which has a parent
 abbrev pub message_of : MessageLine → List Signal → Message
 message_of h signals = record {
   name = h.name;
   key = record { extended = false; id = h.id };
   length = h.byte_count;
   signals = signals;
+  tree = record { parents = replicate (length signals) None };
 }
 
 -- the signals up to the next message

@@ -1,9 +1,9 @@
 //! The reader of DBC files, the databases of CAN buses, in their plainest form: version, message and signal
 //! lines with one space between words. It stands on `byte_forms` for lines, literals and numerals, and on
-//! `bench_model` and the lists of `multiplex_tree` for the database; `bench_server` calls it.
+//! `bench_model` and the lists and trees of `multiplex_tree` for the database; `bench_server` calls it.
 //! Main theorem: unless memory runs out, `read_dbc` gives the database that the lines spell exactly where each
 //! line is lawful after those before it, and else names the first line that is not, or line 0 where the file is
-//! too long (`specs/Spelling.antt`, `specs/Lawful.antt`).
+//! too long (`specs/Spelling.antt`, `specs/Lawful.antt`); that database keeps every rule of `check`.
 #![tactic(auto)]
 
 mod fault;

@@ -2,8 +2,9 @@
 
 ghost use Rattle.std.specs.Prelude.{◌≡◌, IfOk};
 ghost use Rattle.std.specs.List.{list_any};
+ghost use Rattle.bench_model.specs.Check.{has_name};
 ghost use Rattle.dbc_grammar.specs.Statement.{signal_of};
-ghost use Rattle.dbc_grammar.specs.Lawful.{has_id, has_name};
+ghost use Rattle.dbc_grammar.specs.Lawful.{has_id};
 ghost use Rattle.dbc_grammar.specs.Views.{field as field_of};
 
 use crate::statement::SignalLine;
@@ -38,7 +39,7 @@ pub fn signal(alloc: Global, field: &SignalLine<'_>) -> Result<Signal, AllocErro
 pub fn has_signal(name: &[u8], signals: &[Signal]) -> bool
     ensures { result ≡ list_any (has_name name.now) signals.now }
 {
-    signals.iter().any(|signal| name == signal.name.bytes())
+    signals.iter().any(|signal| signal.name.bytes() == name)
 }
 
 /// Whether a message has this identifier.

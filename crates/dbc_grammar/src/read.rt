@@ -2,12 +2,11 @@
 
 ghost use Rattle.std.specs.Prelude.{[], ◌≡◌, ◌<◌, ℕ, length, IfOk, IfErr};
 ghost use Rattle.byte_forms.specs.Lines.{all_lines};
-ghost use Rattle.bench_model.specs.Limits.{IsLawfulDatabase};
+ghost use Rattle.bench_model.specs.Check.{IsValid};
 ghost use Rattle.bench_model.specs.declared.database.Database.{Database};
 ghost use Rattle.dbc_grammar.specs.declared.fault.DbcFault.TheVariants.{NotBuilt};
 ghost use Rattle.dbc_grammar.specs.Reading.{outcome};
 ghost use Rattle.dbc_grammar.specs.Gives.{Gives};
-ghost use Rattle.dbc_grammar.specs.Whole.{HasWholeScalings};
 ghost use Rattle.dbc_grammar.specs.Contract.{byte_limit, SpellsDatabase, IsRefusedAt, HasFault, AnswersDatabase, AnswersLine};
 
 use crate::DbcFault;
@@ -50,9 +49,8 @@ pub fn read_dbc(alloc: Global, bytes: &[u8]) -> Result<Database, DbcFault>
     ensures refused { (line : ℕ) → IsRefusedAt bytes.now line → AnswersLine result line }
     ensures long { byte_limit < length bytes.now → result ≡ Err (NotBuilt 0) }
 
-    // What is read keeps the limits of the model, and its scalings are in whole numbers.
-    ensures lawful { IfOk result IsLawfulDatabase }
-    ensures whole { IfOk result HasWholeScalings }
+    // What is read keeps every rule of `check`.
+    ensures valid { IfOk result IsValid }
 {
     if bytes.len() > BYTE_LIMIT {
         return Err(DbcFault::NotBuilt { line: 0 });

@@ -1,13 +1,13 @@
 //! The messages of the lines that were read so far.
 
-ghost use Rattle.std.specs.Prelude.{[], ◌≡◌, ◌∷◌, ◌++◌, IfOk};
+ghost use Rattle.std.specs.Prelude.{[], ◌≡◌, ◌∷◌, ◌++◌, IfOk, OnOk};
 ghost use Rattle.std.specs.List.{list_any};
 ghost use Rattle.std.specs.Option.{ForNone};
 
 use crate::model::{has_message, has_signal, signal};
 use crate::statement::{MessageLine, SignalLine, Statement, statement_of};
 use bench_model::{Key, Message, Signal, Text};
-use multiplex_tree::List;
+use multiplex_tree::{List, Parent, Tree};
 use std::alloc::{AllocError, Global};
 
 /// How many signals a message may have.
@@ -20,10 +20,22 @@ struct OpenMessage {
     id: u32,
     byte_count: u32,
     signals: Vec<Signal>,
+    /// The parent of each signal: none has one.
+    parents: Vec<Option<Parent>>,
 }
 
 impl OpenMessage {
     ghost use Rattle.dbc_grammar.specs.Reader.{closed_message};
+    ghost use Rattle.dbc_grammar.specs.Reading.{with_signal};
+
+    /// Appends a signal without parent.
+    fn push(&mut self, signal: Signal) -> Result<(), AllocError>
+        ensures { OnOk result (closed_message self.new ≡ with_signal signal (closed_message self.old)) }
+    {
+        self.signals.push(signal)?;
+        self.parents.push(None)?;
+        Ok(())
+    }
 
     fn close(self) -> Message
         ensures { result ≡ closed_message self }
@@ -33,6 +45,7 @@ impl OpenMessage {
             id,
             byte_count,
             signals,
+            parents,
         } = self;
         Message {
             name,
@@ -42,6 +55,9 @@ impl OpenMessage {
             },
             length: byte_count,
             signals: List::of(signals),
+            tree: Tree {
+                parents: List::of(parents),
+            },
         }
     }
 }
@@ -135,6 +151,7 @@ impl Reader {
                 id: heading.id,
                 byte_count: heading.byte_count,
                 signals: Vec::new(alloc),
+                parents: Vec::new(alloc),
             }),
         })
     }
@@ -146,7 +163,7 @@ impl Reader {
         let Reader { closed, last } = self;
         match last {
             Some(mut open) => {
-                open.signals.push(signal)?;
+                open.push(signal)?;
                 Ok(Reader {
                     closed,
                     last: Some(open),

@@ -13,4 +13,4 @@ pub loop-rest-preserved : goal.loop-rest-preserved
 loop-rest-preserved c = one_more _ _ _ _ _ _ c.loop-rest.invariant c.in-Some.ensures c.in_ok-push.ensures.items
 
 pub returns : goal.returns
-returns c = ap Some (c.in_ok-of.ensures ∙ c.deref.ensures.value) ∙ all_read _ _ _ c.loop-rest.invariant (eqb-true _ 0 (sym c.is_empty.ensures ∙ c.loop-rest-test.false))
+returns c = ap Some (c.in_ok-of.ensures.ok ∙ c.deref.ensures.value) ∙ all_read _ _ _ c.loop-rest.invariant (eqb-true _ 0 (sym c.is_empty.ensures ∙ c.loop-rest-test.false))

@@ -1,7 +1,7 @@
 use Rattle.std.proofs.Common.{◌≤◌, length, arith}
 use Rattle.std.proofs.lemmas.Result.{err_from_is_err_and}
 use Rattle.dbc_grammar.specs.Contract.{byte_limit}
-use Rattle.dbc_grammar.proofs.ReadLaws.{SpellsDatabase-read, SpellsDatabase-is, read_not_refused, read-fits, read-whole, fault_not_spelled, HasFault-from, fault-line}
+use Rattle.dbc_grammar.proofs.ReadLaws.{SpellsDatabase-read, SpellsDatabase-is, read_not_refused, read-valid, fault_not_spelled, HasFault-from, fault-line}
 use Rattle.dbc_grammar.proofs.read.read_dbc.Goals as goal
 
 pub returns-in_err-messages-clause-spelled : goal.returns-in_err-messages-clause-spelled
@@ -35,10 +35,6 @@ returns-clause-refused c =
     let short : length c.args.bytes.now ≤ byte_limit = omega arith in
     read_not_refused c.args.bytes.now c.in_ok-messages.messages.items short c.in_ok-messages.ensures
 
-pub returns-clause-lawful : goal.returns-clause-lawful
-returns-clause-lawful c =
-    rw c.of.ensures (read-fits c.args.bytes.now c.in_ok-messages.messages.items c.in_ok-messages.ensures)
-
-pub returns-clause-whole : goal.returns-clause-whole
-returns-clause-whole c =
-    rw c.of.ensures (read-whole c.args.bytes.now c.in_ok-messages.messages.items c.in_ok-messages.ensures)
+pub returns-clause-valid : goal.returns-clause-valid
+returns-clause-valid c =
+    rw c.of.ensures (read-valid c.args.bytes.now c.in_ok-messages.messages.items c.in_ok-messages.ensures)

@@ -1,6 +1,6 @@
 use Rattle.std.proofs.Common.{◌≡◌, ◌∙◌, sym, length, refl, true, false}
 use Rattle.std.specs.List.{list_any}
-use Rattle.dbc_grammar.specs.Lawful.{has_name}
+use Rattle.bench_model.specs.Check.{has_name}
 use Rattle.dbc_grammar.specs.Reader.{closed_message}
 use Rattle.dbc_grammar.proofs.LastMessage.{takes_signal-last}
 use Rattle.dbc_grammar.proofs.reader.Reader.takes_signal.Goals as goal

@@ -1,7 +1,8 @@
-use Rattle.std.proofs.Common.{◌≡◌, ◌++◌, ◌∷◌, [], sym, refl}
+use Rattle.std.proofs.Common.{◌≡◌, sym, refl}
 use Rattle.bench_model.specs.declared.database.Signal.{Signal}
 use Rattle.dbc_grammar.specs.Statement.{signal_of}
 use Rattle.dbc_grammar.specs.Views.{field}
+use Rattle.dbc_grammar.specs.Reading.{with_signal}
 use Rattle.dbc_grammar.specs.Reader.{closed_message}
 use Rattle.dbc_grammar.proofs.LastMessage.{onto_last-last, onto_last-nil}
 use Rattle.dbc_grammar.proofs.reader.Reader.with_field.Goals as goal
@@ -10,7 +11,7 @@ pub returns-in_ok-push-in-Some : goal.returns-in_ok-push-in-Some
 returns-in_ok-push-in-Some c =
     let s : Signal = signal_of (field c.args.field) in
     let last = onto_last-last s c.args.self.closed.items (closed_message c.in-Some.open) in
-    let pushed : c.push.new.self.items ≡ c.in-Some.open.signals.items ++ s ∷ [] = rw c.in_ok-signal.ensures at c.in_ok-push-in-Some.ensures.items in
+    let pushed : closed_message c.push.new.self ≡ with_signal s (closed_message c.in-Some.open) = rw c.in_ok-signal.ensures at c.in_ok-push-in-Some.ensures in
     rw (c.in-Some.is, last, pushed) refl
 
 pub returns-in-None : goal.returns-in-None
