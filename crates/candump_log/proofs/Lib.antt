@@ -1,0 +1,10 @@
+pub mod BlankLaws
+pub mod StampLaws
+pub mod DataLaws
+pub mod FrameLaws
+pub mod LineLaws
+pub mod HeldLaws
+pub mod CutLaws
+pub mod RoutingLaws
+pub mod LinesLaws
+pub mod AnswerLaws

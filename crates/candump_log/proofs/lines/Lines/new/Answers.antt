@@ -1,0 +1,5 @@
+use Rattle.candump_log.proofs.LinesLaws.{shown_fresh}
+use Rattle.candump_log.proofs.lines.Lines.new.Goals as goal
+
+pub returns-clause-lines : goal.returns-clause-lines
+returns-clause-lines g c = shown_fresh _ _ _ _ _ c.in-Ok.held c.in-Ok.ensures c.requires

@@ -1,0 +1,62 @@
+//! The time stamp of a line.
+ghost use Rattle.std.specs.Prelude.{◌≡◌, ◌+◌, ◌*◌, ◌<◌, ◌≤◌, ◌^◌, length, IfSome};
+ghost use Rattle.byte_forms.specs.Pieces.{value_view};
+ghost use Rattle.candump_log.specs.LineOf.{digits_front, number_before, stamp_front};
+
+use byte_forms::after_literal;
+
+/// The decimal digits at the front, where they are not more than `most`: how many, and their number.
+#[inline(always)]
+fn digits_front(most: usize, bytes: &[u8]) -> Option<(usize, u64)>
+    requires { most ≤ 12 }
+    ensures value { result ≡ digits_front most bytes.now }
+    ensures within { IfSome result (λ digits. digits.0 ≤ length bytes.now) }
+    ensures below { IfSome result (λ digits. digits.1 < 10 ^ 12) }
+{
+    let mut value = 0u64;
+    for (i, byte) in bytes.iter().enumerate() {
+        if !byte.is_ascii_digit() {
+            return Some((i, value));
+        }
+        if i == most {
+            return None;
+        }
+        value = value * 10 + u64::from(*byte - b'0');
+    }
+    Some((bytes.len(), value))
+}
+
+/// The number of the digits before a literal, and the text after that.
+#[tactic(auto, unfolding(crate::specs::LineOf::number_before))]
+#[inline(always)]
+fn number_before<'a>(
+    least: usize,
+    most: usize,
+    literal: &[u8],
+    bytes: &'a [u8],
+) -> Option<(u64, &'a [u8])>
+    requires { most ≤ 12 }
+    ensures value { value_view result ≡ number_before least most literal.now bytes.now }
+    ensures within { IfSome result (λ found. length found.1.now ≤ length bytes.now) }
+    ensures below { IfSome result (λ found. found.0 < 10 ^ 12) }
+{
+    let (count, value) = digits_front(most, bytes)?;
+    let rest = after_literal(literal, &bytes[count..])?;
+    if count < least {
+        return None;
+    }
+    Some((value, rest))
+}
+
+/// The stamp at the front in microseconds, and the text after it.
+#[tactic(auto, unfolding(crate::specs::LineOf::stamp_front))]
+#[inline(always)]
+pub(crate) fn stamp_front(bytes: &[u8]) -> Option<(u64, &[u8])>
+    ensures value { value_view result ≡ stamp_front bytes.now }
+    ensures within { IfSome result (λ found. length found.1.now ≤ length bytes.now) }
+{
+    let opened = after_literal(b"(", bytes)?;
+    let (seconds, rest) = number_before(1, 12, b".", opened)?;
+    let (micros, rest) = number_before(6, 6, b")", rest)?;
+    Some((seconds * 1_000_000 + micros, rest))
+}
