@@ -1,0 +1,5 @@
+mod SessionLaws
+mod PairLaws
+mod RowLaws
+mod HearingLaws
+mod PlaceLaws
