@@ -1,0 +1,146 @@
+//! The records of a bus, line by line.
+
+ghost use Rattle.std.specs.Prelude.{◌≡◌, ◌<◌, ◌⊎◌, ◌+◌, ◌^◌, ◌∷◌, [], ◌++◌, List, length, All, IfOk, OnOk, OnErr};
+ghost use Rattle.bench_model.specs.Check.{IsValid};
+ghost use Rattle.bench_model.specs.Meaning.{bench_meaning};
+ghost use Rattle.candump_log.specs.declared.log_line.LogLine.{LogLine};
+ghost use Rattle.decoded_list.specs.Records.{stamp_of, brought_on, records_at};
+ghost use Rattle.decoded_list.specs.RecordsView.{record_list};
+ghost use Rattle.decoded_list.specs.Listening.{Listens, HasTaken};
+
+use crate::bodies::{own_body, transport_body};
+use bench_model::{Bench, Body, Kind, Reading};
+use candump_log::LogLine;
+use j1939_tp::{Listener, TpOut};
+use std::alloc::{AllocError, Global};
+
+/// The records of a line: its own, and that of the message of several packets which its frame completes or breaks off.
+#[derive(Debug, Drop)]
+pub struct Records {
+    pub own: Reading,
+    pub transported: Option<Reading>,
+}
+
+/// Decodes the lines of a bus one after another: it keeps the messages of several packets that are under way, and the
+/// number of the next record.
+#[derive(Drop)]
+pub struct BusDecoder {
+    alloc: Global,
+    bus: u32,
+    kind: Kind,
+    listener: Listener,
+    next: u64,
+}
+
+/// Microseconds since the log's epoch, 0 for a bad line.
+pub fn stamp_of(line: &LogLine) -> u64
+    ensures { result ≡ stamp_of line.now }
+{
+    match line {
+        LogLine::Frame { micros, .. }
+        | LogLine::Remote { micros, .. }
+        | LogLine::Error { micros, .. } => *micros,
+        LogLine::Bad => 0,
+    }
+}
+
+/// What the transport protocol brings at a line: the listener of a J1939 bus hears its frame of data, where that has a
+/// 29-bit identifier.
+pub fn listen(kind: Kind, listener: &mut Listener, line: &LogLine) -> Result<TpOut, AllocError>
+    ensures brought { (before : List LogLine) → Listens kind listener.old before
+        → IfOk result (λ out. out ≡ brought_on kind before line.now) }
+    ensures heard { (before : List LogLine) → Listens kind listener.old before
+        → OnOk result (Listens kind listener.new (before ++ line.now ∷ [])) }
+    ensures unchanged { OnErr result (listener.new ≡ listener.old) }
+{
+    match line {
+        LogLine::Frame {
+            micros,
+            key,
+            payload,
+        } if kind == Kind::J1939 && key.extended => {
+            Ok(listener.step(*micros, key.id, payload.bytes())?)
+        }
+        LogLine::Frame { .. } | LogLine::Remote { .. } | LogLine::Error { .. } | LogLine::Bad => {
+            Ok(TpOut::Nothing)
+        }
+    }
+}
+
+impl BusDecoder {
+    /// The decoder of the bus at this place of a bench, which has taken no line.
+    pub fn new(alloc: Global, bus: u32, kind: Kind) -> BusDecoder
+        ensures taken { HasTaken result [] }
+        ensures bus { (result.bus ≡ bus) × (result.kind ≡ kind) × (result.next ≡ 0) }
+    {
+        BusDecoder {
+            alloc,
+            bus,
+            kind,
+            listener: Listener::new(alloc),
+            next: 0,
+        }
+    }
+
+    /// The number of the next record.
+    pub fn next_number(&self) -> u64
+        ensures { result ≡ self.now.next }
+    {
+        self.next
+    }
+
+    /// The records of the next line, decoded under this version of the databases. After out of memory the line has been
+    /// heard or not, and no record has been numbered.
+    pub fn step(
+        &mut self,
+        bench: &Bench,
+        version: u32,
+        line: &LogLine,
+    ) -> Result<Records, AllocError>
+        requires bus { self.old.bus < length bench.now.buses }
+        requires valid { All (λ b. IsValid b.database) bench.now.buses }
+        requires room { self.old.next + 2 < 2 ^ 64 }
+
+        // Whatever lines were taken before, these are the records of the next one, which is taken, too.
+        ensures records { (before : List LogLine) → HasTaken self.old before
+            → IfOk result (λ records. record_list records ≡ records_at (bench_meaning bench.now self.old.bus) self.old.kind
+            (record { bus = self.old.bus; version = version }) before self.old.next line.now) }
+        ensures taken { (before : List LogLine) → HasTaken self.old before → OnOk result (HasTaken self.new (before ++ line.now ∷ [])) }
+        ensures next { IfOk result (λ records. self.new.next ≡ self.old.next + length (record_list records)) }
+
+        ensures memory { (before : List LogLine) → HasTaken self.old before
+            → OnErr result (HasTaken self.new before ⊎ HasTaken self.new (before ++ line.now ∷ [])) }
+        ensures unnumbered { OnErr result (self.new.next ≡ self.old.next) }
+        ensures same { (self.new.bus ≡ self.old.bus) × (self.new.kind ≡ self.old.kind) }
+    {
+        let micros = stamp_of(line);
+        let own = own_body(self.alloc, bench, self.bus, line)?;
+        let brought = listen(self.kind, &mut self.listener, line)?;
+        let transported = transport_body(self.alloc, bench, self.bus, brought)?;
+        let own = self.number(version, micros, own);
+        Ok(Records {
+            own,
+            transported: match transported {
+                Some(body) => Some(self.number(version, micros, body)),
+                None => None,
+            },
+        })
+    }
+
+    /// The next record.
+    fn number(&mut self, version: u32, micros: u64, body: Body) -> Reading
+        requires { self.old.next + 1 < 2 ^ 64 }
+        ensures record { result ≡ record { bus = self.old.bus; number = self.old.next; version = version; micros = micros; body = body } }
+        ensures next { self.new ≡ record self.old { next = self.old.next + 1 } }
+    {
+        let number = self.next;
+        self.next += 1;
+        Reading {
+            bus: self.bus,
+            number,
+            version,
+            micros,
+            body,
+        }
+    }
+}

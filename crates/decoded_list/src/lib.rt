@@ -1,0 +1,19 @@
+//! What a log decodes to: the records of its lines on a bus, each line under a whole version of the databases.
+//!
+//! `candump_log` says what a line is, `j1939_tp` which messages of several packets the frames make, and `bench_model`
+//! what bytes mean; here is the one definition of the list that they give together, and the plain step that gives the
+//! records of one line. No crate uses it yet: the tool is to take a step a line, and faster decoders to be held to it.
+//!
+//! Main theorem: whatever lines came before, `BusDecoder::step` gives exactly the records of the next line in the decoded list, its
+//! own and on a J1939 bus that of the message which its frame completes or breaks off, unless memory runs out.
+#![tactic(auto)]
+
+mod bodies;
+mod decoder;
+mod laws;
+
+pub use decoder::{BusDecoder, Records, listen, stamp_of};
+pub use laws::{a_record_is_of_a_line, records_are_numbered_by_their_places, the_list_goes_on};
+
+#[cfg(test)]
+mod tests;
