@@ -2,3 +2,4 @@ pub mod Classes
 pub mod Lines
 pub mod Pieces
 pub mod Numerals
+pub mod Hexadecimal

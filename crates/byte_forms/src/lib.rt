@@ -1,4 +1,5 @@
-//! Lines, literals, runs of bytes and numerals: the forms that the readers of the bench's files share.
+//! Lines, literals, runs of bytes and numerals: the forms that the readers of the bench's files share, and the
+//! hexadecimal digits that printers write.
 //! It stands on std alone and takes no memory. Some readers take the front of a byte slice and give the rest,
 //! others judge a whole text; all contracts but that of `next_line` are equations with functions on lists
 //! (`specs/`), about which `proofs/` has the laws that join pieces to a text and take it apart again.
@@ -6,12 +7,14 @@
 #![tactic(auto)]
 
 mod class;
+mod hexadecimal;
 mod lines;
 mod numerals;
 mod pieces;
 mod runs;
 
 pub use class::Class;
+pub use hexadecimal::{hex_of_byte, hex_of_number};
 pub use lines::next_line;
 pub use numerals::{Radix, hexadecimal_byte, number_up_to, signed_decimal};
 pub use pieces::{after_literal, field_before};

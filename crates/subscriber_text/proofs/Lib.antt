@@ -1,0 +1,10 @@
+pub mod QuoteLaws
+pub mod IndexLaws
+pub mod JoinLaws
+pub mod ReadLaws
+pub mod WantLaws
+pub mod RecordLaws
+pub mod FeedLaws
+pub mod PartLaws
+pub mod ItemPartLaws
+pub mod CutLaws

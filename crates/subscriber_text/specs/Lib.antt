@@ -1,0 +1,10 @@
+-- what a subscriber wants, how it asks for it, and the text that it is sent
+pub mod Wants
+pub mod WantLines
+pub mod ItemText
+pub mod Prints
+pub mod Parts
+-- how values of the code are seen
+pub mod Plain
+pub mod WantView
+pub mod LineView

@@ -1,0 +1,34 @@
+//! What a subscriber wants, and the text that it is sent.
+//!
+//! `Wants::read` reads a subscriber's wants, and `append` and `print` write the items that they cover, as the
+//! tool prints them and a server sends them. It stands on `bench_model` for the items, on `exact_scale` and
+//! `byte_forms` for numbers and lines, and on `port_io` for the sink.
+//!
+//! Main theorem: unless memory runs out, `append` adds exactly the text of the item under the wants, and
+//! `Wants::read` gives exactly the wants of the lines, or names the first line that is faulty.
+#![tactic(auto)]
+
+mod bytes;
+mod fault;
+mod index;
+mod item;
+mod laws;
+mod line;
+mod printing;
+mod read;
+mod record;
+mod signal;
+mod want;
+mod wants;
+mod words;
+
+pub use fault::{PrintRefused, WantsFault};
+pub use item::append;
+pub use laws::{
+    a_prefix_of_items_is_whole_but_for_the_last, the_part_of_a_bus_is_the_text_of_its_items,
+};
+pub use printing::{header, print};
+pub use wants::Wants;
+
+#[cfg(test)]
+mod tests;
