@@ -1,7 +1,9 @@
-pub mod FrontLemmas
-pub mod NumberLemmas
-pub mod StringLemmas
-pub mod ScanLemmas
-pub mod BlankLemmas
-pub mod ReadingLemmas
-pub mod ContentLemmas
+pub mod FrontLaws
+pub mod NumberLaws
+pub mod StringLaws
+pub mod ScanLaws
+pub mod BlankLaws
+pub mod ReadingLaws
+pub mod LongestLaws
+pub mod ExistenceLaws
+pub mod ContentLaws

@@ -60,13 +60,3 @@ pub fn tokens(alloc: Global, bytes: &[u8], comments: bool) -> Result<Vec<Token>,
 {
     read_tokens(alloc, bytes, comments)
 }
-
-/// A text has at most one list of tokens, or else at most one first fault.
-pub fn reading_is_unique()
-    ensures list { (text : List ℕ) (comments : Bool) (a b : List Token) →
-        IsTokens text comments a → IsTokens text comments b → a ≡ b }
-    ensures fault { (text : List ℕ) (comments : Bool) (a b : LexFault) →
-        IsLexFault text comments a → IsLexFault text comments b → a ≡ b }
-    ensures never_both { (text : List ℕ) (comments : Bool) (list : List Token) (fault : LexFault) →
-        IsTokens text comments list → ¬ IsLexFault text comments fault }
-{}

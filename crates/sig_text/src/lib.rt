@@ -5,14 +5,15 @@
 //! gives, and to take the content of a string from `string_of`. It stands on std and `thiserror`.
 //!
 //! The theorem: `tokens` answers the list of longest tokens that the text is made of, or the first place at which
-//! there is none, exactly where the text has the one or the other, unless memory runs out; a text has at most one
-//! such list or one such place. What `string_of` makes is UTF-8.
+//! there is none, exactly where the text has the one or the other, unless memory runs out; each text has one such
+//! list or one such place, and never both. What `string_of` makes is UTF-8.
 #![tactic(auto)]
 
 mod blank;
 mod bytes;
 mod content;
 mod fault;
+mod laws;
 mod lexer;
 mod number;
 mod scan;
@@ -23,5 +24,6 @@ mod token;
 
 pub use content::string_of;
 pub use fault::LexFault;
-pub use lexer::{reading_is_unique, tokens};
+pub use laws::reading_is_unique;
+pub use lexer::tokens;
 pub use token::{Token, TokenKind};

@@ -2,7 +2,7 @@ use Rattle.std.proofs.Common.{◌≡◌, ◌<◌, ◌==◌, true, drop, subst, a
 use Rattle.std.proofs.lemmas.Bool.{both_ways}
 use Rattle.std.proofs.lemmas.List.{take_rest}
 use Rattle.sig_text.specs.Comments.{BeginsSpace, OpensLineComment, OpensBlockComment}
-use Rattle.sig_text.proofs.BlankLemmas.{space_at, no_blank_at}
+use Rattle.sig_text.proofs.BlankLaws.{space_at, no_blank_at}
 use Rattle.sig_text.proofs.blank.blank_end.Goals as goal
 use Rattle.sig_text.proofs.blank.blank_end.Goals.{then-comments+in-Absent, else-comments}
 

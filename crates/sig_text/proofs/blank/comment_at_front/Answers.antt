@@ -1,5 +1,5 @@
 use Rattle.std.proofs.Common.{◌≡◌, get_or, inl, arith}
-use Rattle.sig_text.proofs.StringLemmas.{line_comment_front}
+use Rattle.sig_text.proofs.StringLaws.{line_comment_front}
 use Rattle.sig_text.proofs.blank.comment_at_front.Goals as goal
 
 pub returns-in-47 : goal.returns-in-47

@@ -1,7 +1,7 @@
 use Rattle.std.proofs.Common.{◌≡◌, sym, subst, arith, IsUtf8}
 use Rattle.std.proofs.lemmas.Grind.{common_steps}
 use Rattle.sig_text.specs.Content.{content_of}
-use Rattle.sig_text.proofs.ContentLemmas.{quotes_of, IsUtf8-content_of}
+use Rattle.sig_text.proofs.ContentLaws.{quotes_of, IsUtf8-content_of}
 use Rattle.sig_text.proofs.content.string_of.Goals as goal
 
 pub slice_bounds-content-count : goal.slice_bounds-content-count

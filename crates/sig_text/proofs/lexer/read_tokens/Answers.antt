@@ -2,7 +2,7 @@ use Rattle.std.proofs.Common.{◌≡◌, inl, sym, ap, subst, arith, is_ok, get_
 use Rattle.sig_text.specs.declared.token.TokenKind.TheVariants.{Str}
 use Rattle.std.proofs.ResultArms.{chosen}
 use Rattle.sig_text.specs.Tokens.{AreTokens}
-use Rattle.sig_text.proofs.ReadingLemmas.{push_blank, push_token}
+use Rattle.sig_text.proofs.ReadingLaws.{push_blank, push_token}
 use Rattle.sig_text.proofs.lexer.read_tokens.Goals as goal
 
 pub loop-at-preserved-in-Some : goal.loop-at-preserved-in-Some

@@ -1,4 +1,4 @@
-use Rattle.sig_text.proofs.ReadingLemmas.{each_token, every_list, every_fault}
+use Rattle.sig_text.proofs.ReadingLaws.{each_token, every_list, every_fault}
 use Rattle.sig_text.proofs.lexer.tokens.Goals as goal
 
 pub returns-clause-each : goal.returns-clause-each

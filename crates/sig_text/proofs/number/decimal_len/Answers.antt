@@ -2,7 +2,7 @@ use Rattle.std.proofs.Common.{◌<◌, arith, subst}
 use Rattle.std.proofs.lemmas.List.{take_rest}
 use Rattle.sig_text.specs.Fronts.{IsLongestFront}
 use Rattle.sig_text.specs.Spelling.{IsMantissa, IsExponent}
-use Rattle.sig_text.proofs.NumberLemmas.{decimal_nothing, decimal_front}
+use Rattle.sig_text.proofs.NumberLaws.{decimal_nothing, decimal_front}
 use Rattle.sig_text.proofs.number.decimal_len.Goals as goal
 
 pub returns-in-0 : goal.returns-in-0

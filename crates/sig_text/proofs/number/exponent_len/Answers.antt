@@ -3,7 +3,7 @@ use Rattle.std.proofs.lemmas.List.{take_rest}
 use Rattle.sig_text.specs.Bytes.{is_exponent_mark}
 use Rattle.sig_text.specs.Fronts.{IsLongestFront}
 use Rattle.sig_text.specs.Spelling.{IsPower}
-use Rattle.sig_text.proofs.FrontLemmas.{after_front}
+use Rattle.sig_text.proofs.FrontLaws.{after_front}
 use Rattle.sig_text.proofs.number.exponent_len.Goals as goal
 
 pub returns-in_default-power_len : goal.returns-in_default-power_len

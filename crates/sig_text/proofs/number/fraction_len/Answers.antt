@@ -2,7 +2,7 @@ use Rattle.std.proofs.Common.{◌≡◌, ◌∙◌, ap, get_or, arith}
 use Rattle.std.specs.List.{prefix_len}
 use Rattle.std.specs.Char.{is_ascii_digit}
 use Rattle.std.proofs.lemmas.List.{take_rest}
-use Rattle.sig_text.proofs.FrontLemmas.{fraction_front}
+use Rattle.sig_text.proofs.FrontLaws.{fraction_front}
 use Rattle.sig_text.proofs.number.fraction_len.Goals as goal
 
 -- the point is the first byte, and its digits are the run behind it

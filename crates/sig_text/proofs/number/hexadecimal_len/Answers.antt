@@ -3,7 +3,7 @@ use Rattle.std.specs.List.{prefix_len}
 use Rattle.std.specs.Char.{is_ascii_hexdigit}
 use Rattle.std.proofs.lemmas.List.{take_rest}
 use Rattle.sig_text.specs.Bytes.{is_hexadecimal_mark}
-use Rattle.sig_text.proofs.NumberLemmas.{hexadecimal_front}
+use Rattle.sig_text.proofs.NumberLaws.{hexadecimal_front}
 use Rattle.sig_text.proofs.number.hexadecimal_len.Goals as goal
 
 -- `0x` stands in front, and its digits are the run behind it

@@ -2,7 +2,7 @@ use Rattle.std.proofs.Common.{◌≡◌, ℕ, ◌+◌, ◌-◌, ◌<◌, List, l
 use Rattle.std.proofs.lemmas.List.{take_rest}
 use Rattle.sig_text.specs.Fronts.{IsLongestFront}
 use Rattle.sig_text.specs.Spelling.{IsFraction, IsMantissa}
-use Rattle.sig_text.proofs.NumberLemmas.{mantissa_nothing, mantissa_bare, mantissa_whole}
+use Rattle.sig_text.proofs.NumberLaws.{mantissa_nothing, mantissa_bare, mantissa_whole}
 use Rattle.sig_text.proofs.number.mantissa_len.Goals as goal
 use Rattle.sig_text.proofs.number.mantissa_len.Goals.{else-whole-eq0-via-then-whole-eq0+else-fraction-lt2, else-whole-eq0-via-else-whole-eq0}
 

@@ -5,7 +5,7 @@ use Rattle.std.proofs.lemmas.List.{take_rest, get_or_past}
 use Rattle.sig_text.specs.Bytes.{is_plus_or_minus}
 use Rattle.sig_text.specs.Fronts.{IsLongestFront}
 use Rattle.sig_text.specs.Spelling.{IsPower}
-use Rattle.sig_text.proofs.NumberLemmas.{power_signed, power_plain}
+use Rattle.sig_text.proofs.NumberLaws.{power_signed, power_plain}
 use Rattle.sig_text.proofs.number.power_len.Goals as goal
 
 pub returns-in_default-digits_len : goal.returns-in_default-digits_len

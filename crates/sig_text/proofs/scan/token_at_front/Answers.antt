@@ -2,7 +2,7 @@ use Rattle.std.proofs.Common.{◌≡◌, ◌<◌, true, false, get_or, arith, su
 use Rattle.sig_text.specs.Bytes.{is_word_start, is_sign}
 use Rattle.sig_text.specs.Fronts.{IsLongestFront}
 use Rattle.sig_text.specs.Spelling.{IsNumber}
-use Rattle.sig_text.proofs.ScanLemmas.{word_token, string_token, no_string_token, number_token, sign_token, no_token}
+use Rattle.sig_text.proofs.ScanLaws.{word_token, string_token, no_string_token, number_token, sign_token, no_token}
 use Rattle.sig_text.proofs.scan.token_at_front.Goals as goal
 
 pub returns-then-is_word_start-clause-found : goal.returns-then-is_word_start-clause-found

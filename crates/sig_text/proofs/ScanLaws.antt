@@ -11,9 +11,9 @@ use Rattle.sig_text.specs.Fronts.{IsLongestFront, BeginsToken, BeginsNoToken}
 use Rattle.sig_text.specs.Spelling.{IsHexadecimal, IsMantissa, IsDecimal, IsNumber, IsString, IsSign, IsSpelling}
 use Rattle.sig_text.specs.declared.token.TokenKind.{TokenKind}
 use Rattle.sig_text.specs.declared.token.TokenKind.TheVariants.{Word, Number, Str, Sign}
-use Rattle.sig_text.proofs.FrontLemmas.{All-run, run_longest}
-use Rattle.sig_text.proofs.NumberLemmas.{is_mantissa_byte, mantissa_bytes, no_mantissa, quote_is_no_number}
-use Rattle.sig_text.proofs.StringLemmas.{string_longest}
+use Rattle.sig_text.proofs.FrontLaws.{All-run, run_longest}
+use Rattle.sig_text.proofs.NumberLaws.{is_mantissa_byte, mantissa_bytes, no_mantissa, quote_is_no_number}
+use Rattle.sig_text.proofs.StringLaws.{string_longest}
 
 -- the first byte of a front is that of the text, for a class without the byte 0
 first_of_front : (c : ℕ → Bool) (n : ℕ) (text : List ℕ) → c 0 ≡ false → c (get_or (take n text) 0 0) ≡ true → c (get_or text 0 0) ≡ true

@@ -16,9 +16,9 @@ use Rattle.sig_text.specs.declared.token.TokenKind.TheVariants.{Word, Number, St
 use Rattle.sig_text.specs.declared.token.Token.{Token}
 use Rattle.sig_text.specs.declared.fault.LexFault.{LexFault}
 use Rattle.sig_text.specs.declared.fault.LexFault.TheVariants.{OpenString, OpenComment, Byte, Memory}
-use Rattle.sig_text.proofs.NumberLemmas.{is_mantissa_byte, no_mantissa, no_digits, quote_is_no_number}
-use Rattle.sig_text.proofs.ScanLemmas.{first_class, spelling_first, token_first, word_is_no_number, word_is_no_sign, word_is_no_quote}
-use Rattle.sig_text.proofs.BlankLemmas.{white, mark, line, block, blank_form, blank_unique, no_blank_from_byte, first_of_rest}
+use Rattle.sig_text.proofs.NumberLaws.{is_mantissa_byte, no_mantissa, no_digits, quote_is_no_number}
+use Rattle.sig_text.proofs.ScanLaws.{first_class, spelling_first, token_first, word_is_no_number, word_is_no_sign, word_is_no_quote}
+use Rattle.sig_text.proofs.BlankLaws.{white, mark, line, block, blank_form, blank_unique, no_blank_from_byte, first_of_rest}
 
 -- one byte that is a number is a digit
 digit_mantissa : (b : ℕ) (s : List ℕ) → IsMantissa s → s ≡ b ∷ [] → is_ascii_digit b ≡ true
@@ -132,7 +132,7 @@ no_token_in_string text at unclosed Str end within spelled = unclosed.endless en
 no_token_in_string text at unclosed Sign end within spelled = both_ways _ (ap is_sign unclosed.opening) (token_begins text Sign at end spelled)
 
 -- a byte that is not 0 stands in the text
-inside_from_read : (text : List ℕ) (at b : ℕ) → 0 < b → get_or text at 0 ≡ b → at < length text
+pub inside_from_read : (text : List ℕ) (at b : ℕ) → 0 < b → get_or text at 0 ≡ b → at < length text
 inside_from_read text at b some read =
     elim (cases_lt at (length text)) [ inl inside ↦ inside | inr past ↦ absurd (omega (arith, get_or_past text at 0 past)) ]
 

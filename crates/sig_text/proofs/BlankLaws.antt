@@ -8,7 +8,7 @@ use Rattle.sig_text.specs.Bytes.{is_space}
 use Rattle.sig_text.specs.Blank.{IsSpace, IsByteOrderMark, space, byte_order_mark, line_comment, block_comment, IsBlank}
 use Rattle.sig_text.specs.Comments.{BeginsLineComment, BeginsBlockComment, OpensLineComment, OpensBlockComment, BeginsSpace}
 use Rattle.sig_text.specs.Tokens.{BeginsNoBlank}
-use Rattle.sig_text.proofs.StringLemmas.{comment_longest}
+use Rattle.sig_text.proofs.StringLaws.{comment_longest}
 
 -- a byte of a front is that of the text, if it is not 0
 pub read_of_front : (n : ℕ) (text : List ℕ) (i b : ℕ) → 0 < b → get_or (take n text) i 0 ≡ b → get_or text i 0 ≡ b
@@ -36,7 +36,7 @@ pub data BlankForm (rest : List ℕ) (n : ℕ) : Type 0 where
   block : get_or rest 0 0 ≡ 47 → get_or rest 1 0 ≡ 42 → BeginsBlockComment rest n → BlankForm rest n
 
 -- white space is a byte from 1 to 32
-space_is_low : (b : ℕ) → is_space b ≡ true → (b ≤ 32) × (0 < b)
+pub space_is_low : (b : ℕ) → is_space b ≡ true → (b ≤ 32) × (0 < b)
 space_is_low b pass = grind (arith, nat_tests)
 
 -- each blank has a form

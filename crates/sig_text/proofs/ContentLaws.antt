@@ -9,8 +9,8 @@ use Rattle.std.proofs.lemmas.Str.{IsUtf8-append, IsUtf8-nil, IsUtf8-encode, IsUt
 use Rattle.sig_text.specs.Content.{IsStringOf, unescaped, between_quotes, encoded, content_of}
 use Rattle.sig_text.specs.Spelling.{IsString, IsSpelling}
 use Rattle.sig_text.specs.declared.token.Token.{Token}
-use Rattle.sig_text.proofs.StringLemmas.{string_end}
-use Rattle.sig_text.proofs.BlankLemmas.{first_of_rest, read_of_front}
+use Rattle.sig_text.proofs.StringLaws.{string_end}
+use Rattle.sig_text.proofs.BlankLaws.{first_of_rest, read_of_front}
 
 -- bytes without a backslash stand for themselves
 unescaped_plain : (xs rest : List ℕ) → ((k : ℕ) → k < length xs → get_or xs k 0 ≡ 92 → ⊥) → unescaped (xs ++ rest) ≡ xs ++ unescaped rest

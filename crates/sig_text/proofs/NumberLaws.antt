@@ -10,10 +10,10 @@ use Rattle.std.proofs.lemmas.List.Sums.{prefix_len_passes}
 use Rattle.sig_text.specs.Fronts.{IsLongestFront}
 use Rattle.sig_text.specs.Bytes.{is_point, is_nought, is_hexadecimal_mark, is_plus_or_minus}
 use Rattle.sig_text.specs.Spelling.{AreDigits, AreDecimalDigits, IsAfter, IsWithOption, IsHexadecimal, IsFraction, IsBareFraction, IsPower, IsExponent, IsMantissa, IsDecimal}
-use Rattle.sig_text.proofs.FrontLemmas.{digits_front, after_front, after_other, option_front, option_nothing}
+use Rattle.sig_text.proofs.FrontLaws.{digits_front, after_front, after_other, option_front, option_nothing}
 
 -- the longest front of either language, where that of the first is the longer
-either_front : (P Q : List ℕ → Type 0) (text : List ℕ) (n k : ℕ) → IsLongestFront P text n → IsLongestFront Q text k → k ≤ n → IsLongestFront (λ s. P s ⊎ Q s) text n
+pub either_front : (P Q : List ℕ → Type 0) (text : List ℕ) (n k : ℕ) → IsLongestFront P text n → IsLongestFront Q text k → k ≤ n → IsLongestFront (λ s. P s ⊎ Q s) text n
 either_front P Q text n k first second less = record {
   within = first.within;
   spelled = λ some. inl (first.spelled some);
@@ -21,7 +21,7 @@ either_front P Q text n k first second less = record {
 }
 
 -- the same, where that of the second is the longer
-or_front : (P Q : List ℕ → Type 0) (text : List ℕ) (n k : ℕ) → IsLongestFront P text n → IsLongestFront Q text k → n ≤ k → IsLongestFront (λ s. P s ⊎ Q s) text k
+pub or_front : (P Q : List ℕ → Type 0) (text : List ℕ) (n k : ℕ) → IsLongestFront P text n → IsLongestFront Q text k → n ≤ k → IsLongestFront (λ s. P s ⊎ Q s) text k
 or_front P Q text n k first second less = record {
   within = second.within;
   spelled = λ some. inr (second.spelled some);
@@ -68,7 +68,7 @@ hexadecimal_front text n there nought mark some run =
     (after_front is_nought (IsAfter is_hexadecimal_mark (AreDigits is_ascii_hexdigit)) text (1 + n) (omega arith) (rw nought refl) (omega arith) marked)
 
 -- a fraction begins with no digit
-fraction_begins : (s : List ℕ) → IsFraction s → (0 < length s) × (is_ascii_digit (get_or s 0 0) ≡ false)
+pub fraction_begins : (s : List ℕ) → IsFraction s → (0 < length s) × (is_ascii_digit (get_or s 0 0) ≡ false)
 fraction_begins [] fraction = absurd fraction
 fraction_begins (b ∷ digits) fraction = (omega arith, rw (eqb-true b 46 fraction.0) refl)
 
@@ -158,7 +158,7 @@ mantissa_bytes s mantissa =
     ]
 
 -- an exponent begins with no byte of a mantissa
-exponent_begins : (s : List ℕ) → IsExponent s → (0 < length s) × (is_mantissa_byte (get_or s 0 0) ≡ false)
+pub exponent_begins : (s : List ℕ) → IsExponent s → (0 < length s) × (is_mantissa_byte (get_or s 0 0) ≡ false)
 unfolding is_mantissa_byte
 exponent_begins [] exponent = absurd exponent
 exponent_begins (b ∷ power) exponent = (

@@ -9,7 +9,7 @@ use Rattle.sig_text.specs.Bytes.{is_in_line}
 use Rattle.sig_text.specs.Spelling.{ClosesString, IsString}
 use Rattle.sig_text.specs.Blank.{ClosesComment, IsBlockComment}
 use Rattle.sig_text.specs.Comments.{BeginsLineComment, BeginsBlockComment, OpensLineComment, OpensBlockComment}
-use Rattle.sig_text.proofs.FrontLemmas.{All-run}
+use Rattle.sig_text.proofs.FrontLaws.{All-run}
 
 -- what closes the string in the text closes it in a front
 pub closes_in_front : (text : List ℕ) (n place : ℕ) → place < n → ClosesString text place → ClosesString (take n text) place
