@@ -6,7 +6,7 @@ mod cases;
 
 use crate::*;
 use bench_model::Text;
-use cases::{CASES, Case, Want};
+use cases::{CASES, Case, ERROR_FRAMES, LENGTHS, Want};
 use port_io::{MemSource, read_source};
 use std::alloc::Global;
 use std::process::Abort;
@@ -49,9 +49,23 @@ fn assert_cases(rt: &impl Abort, cases: &[Case]) {
     }
 }
 
+fn assert_forms(rt: &impl Abort) {
+    assert_cases(rt, &CASES);
+}
+
+fn assert_error_frames(rt: &impl Abort) {
+    assert_cases(rt, &ERROR_FRAMES);
+}
+
+fn assert_lengths(rt: &impl Abort) {
+    assert_cases(rt, &LENGTHS);
+}
+
 #[test]
 fn each_form_says_what_it_is(rt: HostRuntime) {
-    assert_cases(&rt, &CASES);
+    assert_forms(&rt);
+    assert_error_frames(&rt);
+    assert_lengths(&rt);
 }
 
 #[test]
@@ -67,11 +81,11 @@ fn the_interface_is_the_word_behind_the_stamp(rt: HostRuntime) {
     assert_eq!(rt; interface(b"(1.000000) can0 100"), None);
 }
 
-/// A frame with blanks behind it, so many bytes in all.
-fn padded(alloc: Global, len: usize) -> Result<Vec<u8>, Fail> {
-    let mut text = b"(1.000000) can0 100#01".to_vec(alloc)?;
-    for _ in 22..len {
-        text.push(b' ')?;
+/// A frame, a blank and such bytes behind it, so many bytes in all.
+fn padded(alloc: Global, len: usize, fill: u8) -> Result<Vec<u8>, Fail> {
+    let mut text = b"(1.000000) can0 100#00 ".to_vec(alloc)?;
+    for _ in 23..len {
+        text.push(fill)?;
     }
     Ok(text)
 }
@@ -79,13 +93,32 @@ fn padded(alloc: Global, len: usize) -> Result<Vec<u8>, Fail> {
 #[test]
 fn a_line_has_512_bytes_at_most(rt: HostRuntime) -> Result<(), Fail> {
     let alloc = rt.alloc();
-    assert!(rt;
-        says(
-            &line(&padded(alloc, 512)?),
-            &Want::Frame(1_000_000, false, 0x100, &[1])
-        )
-    );
-    assert!(rt; says(&line(&padded(alloc, 513)?), &Want::Bad));
+    let frame = Want::Frame(1_000_000, false, 0x100, &[0x00]);
+    for fill in [b'a', b'Z', b' ', b'\r'] {
+        let (most, over) = (padded(alloc, 512, fill)?, padded(alloc, 513, fill)?);
+        assert!(rt; says(&line(&most), &frame));
+        assert!(rt; says(&line(&over), &Want::Bad));
+        // The longest and one more as whole lines and as the last line, without its line feed.
+        for (last, want) in [(&most, &frame), (&over, &Want::Bad)] {
+            let mut bytes = Vec::new(alloc);
+            for text in [&most, &over, last] {
+                if bytes.len() > 0 {
+                    bytes.push(b'\n')?;
+                }
+                bytes.extend_from_slice(text)?;
+            }
+            let (lines, why) = all_lines(&rt, alloc, &bytes, 100, &[])?;
+            assert!(rt; why.is_none());
+            match lines.as_slice() {
+                [first, second, third] => {
+                    assert!(rt; says(first, &frame));
+                    assert!(rt; says(second, &Want::Bad));
+                    assert!(rt; says(third, want));
+                }
+                _ => panic!(rt; "{} lines", lines.len()),
+            }
+        }
+    }
     Ok(())
 }
 
@@ -155,6 +188,8 @@ fn a_log_has_the_same_lines_whatever_its_reads(rt: HostRuntime) -> Result<(), Fa
     let bytes = log(alloc)?;
     for step in [1, 2, 3, 46, 511, 512, 513, 65_536] {
         if step > 0 {
+            let (none, why) = all_lines(&rt, alloc, &[], step, &[])?;
+            assert!(rt; why.is_none() && none.is_empty());
             let (lines, why) = all_lines(&rt, alloc, &bytes, step, &[])?;
             assert!(rt; why.is_none());
             assert_eq!(rt;
@@ -195,12 +230,21 @@ fn a_line_stands_ready_where_it_was_read(rt: HostRuntime) -> Result<(), Fail> {
     let Ok(mut lines) = Lines::new(alloc, source) else {
         panic!(rt; "out of memory");
     };
-    // Whether a line stands ready before the call, and how many bytes were taken after it.
-    for (ready, taken) in [(false, 47), (true, 47), (false, 47), (false, 47)] {
+    // Whether a line stands ready before the call, and whether the call gives one: none again after the end.
+    for (ready, some) in [
+        (false, true),
+        (true, true),
+        (false, true),
+        (false, false),
+        (false, false),
+    ] {
         if !lines.failed() {
             assert_eq!(rt; lines.ready(), ready);
-            assert!(rt; lines.next().is_ok());
-            assert_eq!(rt; lines.taken(), taken);
+            match lines.next() {
+                Ok(line) => assert_eq!(rt; line.is_some(), some),
+                Err(why) => panic!(rt; "{why:?}"),
+            }
+            assert_eq!(rt; lines.taken(), 47);
         }
     }
     // The source comes back at its end, so a reader of what it has left finds nothing.
@@ -213,16 +257,30 @@ fn a_line_stands_ready_where_it_was_read(rt: HostRuntime) -> Result<(), Fail> {
 fn a_line_goes_to_the_first_name_of_its_interface(rt: HostRuntime) -> Result<(), Fail> {
     let alloc = rt.alloc();
     let mut names = Vec::new(alloc);
-    names.push(Text::of(alloc, b"can0")?)?;
-    names.push(Text::of(alloc, b"can1")?)?;
-    let bytes = b"(1.0000) can0 100#01\n(1.000000) can0 1#\n(1.000000) can0 100#01\n\
-        (1.000000) can1 100#02\n(1.000000) can2 100#03\n(1.000000) can0 100#04\n(1.000000) can 100#05\n";
-    let source = MemSource::new(bytes.to_vec(alloc)?, 65_536, Vec::new(alloc));
+    for name in [b"can0", b"can1", b"can1", b"can0"] {
+        names.push(Text::of(alloc, name)?)?;
+    }
+    let mut bytes = b"(1.0000) can0 100#01\n(1.000000) can0 1#\n(1.000000) can0 100#01\n\
+        (1.000000) can1 100#02\n(1.000000) can2 100#03\n(1.000000) can0 100#04\n(1.000000) can 100#05\n"
+        .to_vec(alloc)?;
+    bytes.extend_from_slice(&padded(alloc, 513, b'a')?)?;
+    bytes.extend_from_slice(b"\n(1.000000) can1 100#06")?;
+    let source = MemSource::new(bytes, 100, Vec::new(alloc));
     let Ok(mut lines) = Lines::new(alloc, source) else {
         panic!(rt; "out of memory");
     };
-    for place in [None, None, Some(0), Some(1), None, Some(0), None] {
-        if !lines.failed() && names.len() == 2 {
+    for place in [
+        None,
+        None,
+        Some(0),
+        Some(1),
+        None,
+        Some(0),
+        None,
+        None,
+        Some(1),
+    ] {
+        if !lines.failed() && names.len() == 4 {
             match lines.next_on(&names) {
                 Ok(Some(routed)) => assert_eq!(rt; routed.place, place),
                 Ok(None) | Err(_) => panic!(rt; "a line is left"),
