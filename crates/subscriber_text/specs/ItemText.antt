@@ -59,7 +59,7 @@ label_text label = flat_map behind_blank (label_words label)
 abbrev pub signal_line : SignalValue → List ℕ
 signal_line s =
     line_of (codes "s" ∷ s.name ∷ signed_decimal s.raw ∷ decimal_text s.value.num s.value.k
-        ∷ quoted s.unit ∷ label_words s.label)
+    ∷ quoted s.unit ∷ label_words s.label)
 
 abbrev pub cause_text : CutCause → List ℕ
 cause_text cause.Late = codes "late"
@@ -114,7 +114,7 @@ record_words bus r (body.Error id) = begin_stamped (codes "e") bus r (hex_digits
 record_words bus r body.Bad = begin (codes "x") bus r []
 record_words bus r (body.Transport pgn sa da bytes name signals) =
     begin_stamped (codes "t") bus r (decimal pgn ∷ decimal sa ∷ decimal da ∷ hex_bytes bytes
-        ∷ name_or_dash name ∷ [])
+    ∷ name_or_dash name ∷ [])
 record_words bus r (body.Cut pgn sa da cause) =
     begin_stamped (codes "c") bus r (decimal pgn ∷ decimal sa ∷ decimal da ∷ cause_text cause ∷ [])
 

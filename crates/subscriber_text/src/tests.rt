@@ -1,42 +1,19 @@
 use super::*;
-use bench_model::{Body, CutCause, Exact, Item, Key, Missed, Reading, SignalValue, Text};
+use bench_model::{Body, Exact, Item, Key, Missed, Reading, SignalValue, Text};
 use multiplex_tree::List;
-use port_io::{MemSink, Sink};
+use port_io::MemSink;
 use std::alloc::{AllocError, Global};
 use std::test::*;
 
 mod items;
 mod wants;
 
-/// Texts of these bytes.
-fn texts(alloc: Global, names: &[&[u8]]) -> Result<Vec<Text>, AllocError> {
-    let mut texts = Vec::new(alloc);
-    for name in names {
-        texts.push(Text::of(alloc, name)?)?;
-    }
-    Ok(texts)
-}
-
-/// A signal's value.
-fn signal(
-    alloc: Global,
-    name: &[u8],
-    raw: i128,
-    value: Exact,
-    unit: &[u8],
-    label: Option<&[u8]>,
-) -> Result<SignalValue, AllocError> {
-    let label = match label {
-        None => None,
-        Some(label) => Some(Text::of(alloc, label)?),
-    };
-    Ok(SignalValue {
-        name: Text::of(alloc, name)?,
-        raw,
-        value,
-        unit: Text::of(alloc, unit)?,
-        label,
-    })
+/// The buses `A` and `Bus2`.
+fn buses(alloc: Global) -> Result<Vec<Text>, AllocError> {
+    let mut names = Vec::new(alloc);
+    names.push(Text::of(alloc, b"A")?)?;
+    names.push(Text::of(alloc, b"Bus2")?)?;
+    Ok(names)
 }
 
 /// A record of bus 0 with a body.
@@ -52,26 +29,45 @@ fn record(number: u64, micros: u64, body: Body) -> Item {
     }
 }
 
-/// The record of a message with two signals.
-fn engine(alloc: Global) -> Result<Item, AllocError> {
-    let mut signals = Vec::new(alloc);
-    let speed = Exact { num: 800000, k: 2 };
-    let oil = Exact { num: -205, k: 1 };
-    signals.push(signal(alloc, b"Speed", 4000, speed, b"rpm", None)?)?;
-    signals.push(signal(alloc, b"Oil", -20, oil, b"\xc2\xb0C", Some(b"cold"))?)?;
-    Ok(record(
-        0,
-        1_000_000,
-        Body::Message {
-            name: Text::of(alloc, b"Engine")?,
-            signals: List::of(signals),
-        },
-    ))
+/// A signal's value with a label.
+fn signal(
+    alloc: Global,
+    name: &[u8],
+    raw: i128,
+    value: Exact,
+    unit: &[u8],
+    label: &[u8],
+) -> Result<SignalValue, AllocError> {
+    Ok(SignalValue {
+        name: Text::of(alloc, name)?,
+        raw,
+        value,
+        unit: Text::of(alloc, unit)?,
+        label: Some(Text::of(alloc, label)?),
+    })
 }
 
-/// What an item appends under these wants.
-fn text_of(alloc: Global, wants: &Wants, item: &Item) -> Result<Vec<u8>, AllocError> {
+/// The record of a message with these signals.
+fn message(alloc: Global, name: &[u8], signals: Vec<SignalValue>) -> Result<Item, AllocError> {
+    let body = Body::Message {
+        name: Text::of(alloc, name)?,
+        signals: List::of(signals),
+    };
+    Ok(record(0, 1_000_000, body))
+}
+
+/// What items append under these wants.
+fn text_of(alloc: Global, wants: &Wants, items: &[Item]) -> Result<Vec<u8>, AllocError> {
     let mut text = Vec::new(alloc);
-    append(wants, item, &mut text)?;
+    for item in items {
+        append(wants, item, &mut text)?;
+    }
     Ok(text)
+}
+
+/// A vector of one item.
+fn one(alloc: Global, item: Item) -> Result<Vec<Item>, AllocError> {
+    let mut items = Vec::new(alloc);
+    items.push(item)?;
+    Ok(items)
 }

@@ -47,8 +47,11 @@ impl NamedWant {
         message: Option<&[u8]>,
         signal: Option<&[u8]>,
     ) -> Ordering
-        ensures { result ≡ want_cmp (want_view self.now) (record { bus = bus; message = name_of
-            message.entry; signal = name_of signal.entry }) }
+        ensures { result ≡ want_cmp (want_view self.now) (record {
+          bus = bus;
+          message = name_of message.entry;
+          signal = name_of signal.entry;
+        }) }
     {
         match self.message_order(bus, message) {
             Ordering::Equal => name_order(&self.signal, signal),

@@ -45,8 +45,12 @@ impl Wants {
         names: &[Text],
         wants: Vec<NamedWant>,
     ) -> Result<Wants, AllocError>
-        ensures { IfOk result (λ w. w ≡ record { format = format; names = names.now; wants = wants_view
-            wants.items }) }
+        ensures { IfOk result (λ w. w ≡ record {
+          format = format;
+          names = names.now;
+          wants = wants_view
+              wants.items;
+        }) }
     {
         let index = WantIndex::of(alloc, &wants)?;
         Ok(Wants {
