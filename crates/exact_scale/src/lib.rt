@@ -11,12 +11,14 @@
 #![tactic(auto)]
 
 mod digits;
+mod laws;
 mod parts;
 mod printing;
 mod reading;
 mod scaling;
 mod significand;
 
+pub use laws::decimal_is_unique;
 pub use printing::Exact;
 pub use reading::{Decimal, DecimalFault};
 pub use scaling::{Scale, Wide};
