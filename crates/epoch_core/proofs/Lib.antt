@@ -4,3 +4,4 @@ pub mod Loader
 pub mod First
 pub mod Schedules
 pub mod Range
+pub mod UseLaws

@@ -1,6 +1,6 @@
 -- The state of the region machine, after Fraser's epoch-based reclamation: one loader writes images into
 -- regions and publishes them, and lanes announce in their pins the epoch in which they began to read.
-use Rattle.std.specs.Prelude.{ℕ, ◌-◌, Bool, true, false, List, [], ◌∷◌, replicate, slice_index_or, Option, None}
+use Rattle.std.specs.Prelude.{ℕ, ◌+◌, ◌-◌, Bool, true, false, List, [], ◌∷◌, replicate, slice_index_or, Option, None}
 use Rattle.epoch_core.specs.declared.lane.LaneState.{LaneState}
 use Rattle.epoch_core.specs.declared.lane.LaneState.TheVariants.{Idle}
 
@@ -10,7 +10,7 @@ pub record Machine : Type 0 where
   -- the published version and the region that holds its image: the published word
   pub version : ℕ
   pub region : ℕ
-  -- by lane, its pin word: 0, or one more than the epoch that it announced
+  -- by lane, its pin word: 0, or that of the epoch that it announced
   pub pins : List ℕ
   -- by region, its words
   pub regions : List (List ℕ)
@@ -24,6 +24,10 @@ pub record Machine : Type 0 where
   pub lanes : List LaneState
   -- by region and lane, whether the loader knows that the lane cannot hold the region
   pub cleared : List (List Bool)
+
+-- the pin that announces an epoch; 0 announces none
+abbrev pub pin_for : ℕ → ℕ
+pin_for epoch = epoch + 1
 
 -- what a lane does; a lane that is not there is idle
 abbrev pub lane_state : Machine → ℕ → LaneState

@@ -3,7 +3,7 @@ use Rattle.std.specs.Prelude.{◌≡◌, ◌≢◌, ℕ, ◌+◌, ◌<◌, ◌�
 use Rattle.std.specs.List.{All}
 use Rattle.epoch_core.specs.declared.lane.LaneState.{LaneState}
 use Rattle.epoch_core.specs.declared.lane.LaneState.TheVariants.{Idle, Loaded, Pinned, Holding}
-use Rattle.epoch_core.specs.Machine.{Machine, lane_state, pin_of, words_of, image_of, retirement, is_cleared}
+use Rattle.epoch_core.specs.Machine.{Machine, pin_for, lane_state, pin_of, words_of, image_of, retirement, is_cleared}
 use Rattle.epoch_core.specs.Steps.{Holds, EveryLaneIsCleared, NoLaneIsCleared}
 
 -- the first words are the image
@@ -34,8 +34,8 @@ EpochFollowsVersion m = (m.epoch ≤ m.version) × (m.version ≤ m.epoch + 1)
 abbrev pub Announces : ℕ → LaneState → ℕ → Type 0
 Announces now Idle pin = pin ≡ 0
 Announces now (Loaded epoch) pin = (pin ≡ 0) × (epoch ≤ now)
-Announces now (Pinned epoch) pin = (pin ≡ epoch + 1) × (epoch ≤ now)
-Announces now (Holding epoch version region) pin = (pin ≡ epoch + 1) × (epoch ≤ now)
+Announces now (Pinned epoch) pin = (pin ≡ pin_for epoch) × (epoch ≤ now)
+Announces now (Holding epoch version region) pin = (pin ≡ pin_for epoch) × (epoch ≤ now)
 
 abbrev pub PinsAnnounceEpochs : Machine → Type 0
 PinsAnnounceEpochs m = (lane : ℕ) → Announces m.epoch (lane_state m lane) (pin_of m lane)

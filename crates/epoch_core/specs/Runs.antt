@@ -1,6 +1,7 @@
 -- Whole schedules of the region machine: every list of steps, each of which may be taken where it is taken.
 use Rattle.std.specs.Prelude.{◌≡◌, ℕ, ◌≤◌, List, [], ◌∷◌}
 use Rattle.epoch_core.specs.declared.step.Step.{Step}
+use Rattle.epoch_core.specs.declared.step.Step.TheVariants.{W2}
 use Rattle.epoch_core.specs.Machine.{Machine, first}
 use Rattle.epoch_core.specs.Steps.{May, after}
 
@@ -13,6 +14,11 @@ run m (step ∷ steps) = run (after m step) steps
 abbrev pub AreAllowed : Machine → List Step → Type 0
 AreAllowed m [] = Unit {0}
 AreAllowed m (step ∷ steps) = May m step × AreAllowed (after m step) steps
+
+-- a step that publishes this region
+abbrev pub Publishes : ℕ → Step → Type 0
+Publishes region (W2 published size) = published ≡ region
+Publishes region _ = ⊥
 
 -- the limits of a first state
 pub record AreWithinLimits (regions lanes : ℕ) : Type 0 where

@@ -6,7 +6,7 @@ use Rattle.epoch_core.specs.declared.lane.LaneState.{LaneState}
 use Rattle.epoch_core.specs.declared.lane.LaneState.TheVariants.{Idle, Loaded, Pinned, Holding}
 use Rattle.epoch_core.specs.declared.step.Step.{Step}
 use Rattle.epoch_core.specs.declared.step.Step.TheVariants.{L1, L2, L3, L4, L5, W1, W2, W3, W4, S, J}
-use Rattle.epoch_core.specs.Machine.{Machine, lane_state, pin_of, words_of, retirement, clearings, is_cleared}
+use Rattle.epoch_core.specs.Machine.{Machine, pin_for, lane_state, pin_of, words_of, retirement, clearings, is_cleared}
 
 -- the lane holds this version in this region, and announced this epoch before it took hold
 abbrev pub Holds : Machine → ℕ → ℕ → ℕ → ℕ → Type 0
@@ -92,13 +92,13 @@ stored words place word = if place == length words then words ++ word ∷ [] els
 -- announced a later epoch, which was stored after the region was retired
 abbrev pub is_past : ℕ → Option ℕ → Bool
 is_past pin None = false
-is_past pin (Some epoch) = (pin == 0) || nat_lt (epoch + 1) pin
+is_past pin (Some epoch) = (pin == 0) || nat_lt (pin_for epoch) pin
 
 -- the state after a step
 abbrev pub after : Machine → Step → Machine
 after m (L1 lane) = record m { lanes = slice_set m.lanes lane (Loaded m.epoch) }
 after m (L2 lane) = record m {
-  pins = slice_set m.pins lane (loaded_epoch (lane_state m lane) + 1);
+  pins = slice_set m.pins lane (pin_for (loaded_epoch (lane_state m lane)));
   lanes = slice_set m.lanes lane (Pinned (loaded_epoch (lane_state m lane)));
 }
 after m (L3 lane) = record m {

@@ -1,13 +1,13 @@
 //! What holds after every list of allowed steps, in whatever order the lanes and the loader make them. Each
 //! function is a law: it does nothing, and its clauses are proved of the machine that `State` keeps to.
 
-ghost use Rattle.std.specs.Prelude.{◌≡◌, ℕ, ◌+◌, ◌≤◌, List, length};
+ghost use Rattle.std.specs.Prelude.{◌≡◌, ◌≢◌, ℕ, ◌+◌, ◌≤◌, List, length, All, None};
 ghost use Rattle.epoch_core.specs.declared.step.Step.{Step};
 ghost use Rattle.epoch_core.specs.declared.step.Step.TheVariants.{W1};
-ghost use Rattle.epoch_core.specs.Machine.{Machine, first, words_of, image_of};
+ghost use Rattle.epoch_core.specs.Machine.{Machine, first, words_of, image_of, retirement};
 ghost use Rattle.epoch_core.specs.Steps.{May, Holds, HoldsNothing, after};
 ghost use Rattle.epoch_core.specs.Rule.{RegionRule, BeginsWith};
-ghost use Rattle.epoch_core.specs.Runs.{run, AreAllowed, AreWithinLimits, IsReached};
+ghost use Rattle.epoch_core.specs.Runs.{run, AreAllowed, AreWithinLimits, IsReached, Publishes};
 
 /// The rule of the machine holds in the first state, and after every list of steps each of which was allowed.
 pub fn the_rule_holds_in_every_schedule()
@@ -58,4 +58,14 @@ pub fn a_lane_never_goes_back()
     ensures published { (machine : Machine) (steps : List Step) (lane epoch version region : ℕ)
         → AreAllowed machine steps → HoldsNothing machine lane
         → Holds (run machine steps) lane epoch version region → machine.version ≤ version }
+{}
+
+/// A region that is not the published one and was not retired was never published: no image was ever held in
+/// it, so its lanes need no clearing.
+pub fn a_region_not_retired_was_never_published()
+    ensures { (regions lanes : ℕ) (image : List ℕ) (steps : List Step) (region : ℕ)
+        → AreWithinLimits regions lanes → AreAllowed (first regions lanes image) steps
+        → region ≢ (run (first regions lanes image) steps).region
+        → retirement (run (first regions lanes image) steps) region ≡ None
+        → (region ≢ 0) × All (λ step. ¬ Publishes region step) steps }
 {}

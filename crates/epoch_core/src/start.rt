@@ -2,6 +2,7 @@
 
 ghost use Rattle.std.specs.Prelude.{◌≡◌, ◌-◌, ◌≤◌, [], ◌∷◌, replicate, true, false, IfOk};
 ghost use Rattle.epoch_core.specs.Machine.{first};
+ghost use Rattle.epoch_core.specs.Rule.{RegionRule};
 ghost use Rattle.epoch_core.specs.Runs.{AreWithinLimits};
 
 use crate::lane::LaneState;
@@ -19,9 +20,10 @@ impl State {
         image: &[u64],
     ) -> Result<State, AllocError>
         requires { AreWithinLimits regions lanes }
-        ensures { IfOk result (λ state. state ≡ first regions lanes image.now) }
+        ensures first { IfOk result (λ state. state ≡ first regions lanes image.now) }
+        ensures rule { IfOk result RegionRule }
     {
-        Ok(State {
+        let state = State {
             epoch: 0,
             version: 0,
             region: 0,
@@ -32,7 +34,9 @@ impl State {
             writing: None,
             lanes: repeated(alloc, LaneState::Idle, lanes)?,
             cleared: first_clearings(alloc, regions, lanes)?,
-        })
+        };
+        state.keeps_rule();
+        Ok(state)
     }
 }
 

@@ -2,6 +2,7 @@
 
 ghost use Rattle.std.specs.Prelude.{◌≡◌, ◌↔◌, ℕ, IsTrue, length};
 ghost use Rattle.epoch_core.specs.Machine.{lane_state, words_of, retirement};
+ghost use Rattle.epoch_core.specs.Rule.{RegionRule};
 ghost use Rattle.epoch_core.specs.Steps.{May, NamesWhatIsThere, IsIdle, EveryLaneIsCleared, NoOtherIsWritten};
 
 use crate::lane::LaneState;
@@ -46,6 +47,13 @@ impl Model for State {
 }
 
 impl State {
+    /// Nothing is done: the clause says what holds of every state.
+    pub fn keeps_rule(&self)
+        ensures { RegionRule self.now }
+    {
+        let _ = &self.epoch;
+    }
+
     /// Whether a step may be taken. A step that names a lane or a region that is not there may not.
     #[tactic(auto, using(crate::proofs::Range::in_range))]
     pub fn may(&self, step: &Step) -> bool

@@ -2,6 +2,7 @@
 
 ghost use Rattle.std.specs.Prelude.{◌≡◌, OnOk, OnErr};
 ghost use Rattle.epoch_core.specs.Machine.{is_cleared};
+ghost use Rattle.epoch_core.specs.Rule.{RegionRule};
 ghost use Rattle.epoch_core.specs.Steps.{May, TakesMemory, after, loaded_epoch, is_past};
 
 use crate::lane::LaneState;
@@ -16,8 +17,20 @@ impl State {
         requires { May self.old step.now }
         ensures ok { OnOk result (self.new ≡ after self.old step.now) }
         ensures err { OnErr result (self.new ≡ self.old) }
+        ensures rule { RegionRule self.new }
 
         // Every other step is taken whatever memory is left.
+        ensures memory { OnErr result (TakesMemory self.old step.now) }
+    {
+        let taken = self.make(step);
+        self.keeps_rule();
+        taken
+    }
+
+    fn make(&mut self, step: &Step) -> Result<(), AllocError>
+        requires { May self.old step.now }
+        ensures ok { OnOk result (self.new ≡ after self.old step.now) }
+        ensures err { OnErr result (self.new ≡ self.old) }
         ensures memory { OnErr result (TakesMemory self.old step.now) }
     {
         match *step {

@@ -43,6 +43,27 @@ static WRITE_AGAIN: [Step; 1] = [Step::W1 {
 /// The lane lets go, and the loader finds its pin 0.
 static LET_GO: [Step; 2] = [Step::L5 { lane: 0 }, Step::W4 { region: 0, lane: 0 }];
 
+/// The loader writes region 0 whole, publishes version 2 in it, stores the next epoch, and finds the lane's pin:
+/// region 1 was retired at epoch 1.
+static PUBLISH_AGAIN: [Step; 5] = [
+    Step::W1 {
+        region: 0,
+        place: 0,
+        word: 1,
+    },
+    Step::W1 {
+        region: 0,
+        place: 1,
+        word: 2,
+    },
+    Step::W2 {
+        region: 0,
+        length: 2,
+    },
+    Step::W3,
+    Step::W4 { region: 1, lane: 0 },
+];
+
 /// The lane lets go and announces the next epoch, and the loader finds its pin 2.
 static ANNOUNCE_AGAIN: [Step; 4] = [
     Step::L5 { lane: 0 },
@@ -210,6 +231,21 @@ fn assert_crosses<T: Send + Sync>(_value: &T) {}
 fn a_region_is_written_again_once_its_reader_is_past_it(rt: HostRuntime) -> Result<(), Fail> {
     assert_written_after(&rt, &LET_GO, 0)?;
     assert_written_after(&rt, &ANNOUNCE_AGAIN, 2)
+}
+
+#[test]
+fn a_second_publication_uses_the_first_region_again(rt: HostRuntime) -> Result<(), Fail> {
+    let mut state = published_under_a_reader(&rt)?;
+    take_all(&rt, &mut state, &LET_GO)?;
+    take_all(&rt, &mut state, &PUBLISH_AGAIN)?;
+    assert_eq!(rt; state.version, 2);
+    assert_eq!(rt; state.epoch, 2);
+    assert_eq!(rt; state.region, 0);
+    assert_eq!(rt; state.retired.items(), [None, Some(1)].as_slice());
+    assert_eq!(rt; state.images.items().len(), 3);
+    let image = &state.images.items()[2];
+    assert_eq!(rt; image.items(), [1, 2].as_slice());
+    Ok(())
 }
 
 #[test]

@@ -2,8 +2,8 @@
 use Rattle.epoch_core.proofs.First.{first_kept}
 use Rattle.epoch_core.proofs.state.State.first.Goals as goal
 
-pub invariant_of-result : goal.invariant_of-result
-invariant_of-result c =
+pub invariant_of-state : goal.invariant_of-state
+invariant_of-state c =
     rw (
       c.in_ok-repeated.ensures,
       c.in_ok-first_regions.ensures,
