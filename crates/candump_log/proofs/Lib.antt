@@ -6,5 +6,7 @@ pub mod LineLaws
 pub mod HeldLaws
 pub mod CutLaws
 pub mod RoutingLaws
-pub mod LinesLaws
+pub mod LineRuleLaws
+pub mod GivenLineLaws
+pub mod FetchLaws
 pub mod AnswerLaws

@@ -3,10 +3,12 @@
 ghost use Rattle.std.specs.Prelude.{◌≤◌};
 
 mod cases;
+mod error_frames;
 
 use crate::*;
 use bench_model::Text;
-use cases::{CASES, Case, ERROR_FRAMES, LENGTHS, Want};
+use cases::{CASES, Case, LENGTHS, Want};
+use error_frames::ERROR_FRAMES;
 use port_io::{MemSource, read_source};
 use std::alloc::Global;
 use std::process::Abort;

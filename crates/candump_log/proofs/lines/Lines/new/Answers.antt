@@ -1,4 +1,4 @@
-use Rattle.candump_log.proofs.LinesLaws.{shown_fresh}
+use Rattle.candump_log.proofs.LineRuleLaws.{shown_fresh}
 use Rattle.candump_log.proofs.lines.Lines.new.Goals as goal
 
 pub returns-clause-lines : goal.returns-clause-lines

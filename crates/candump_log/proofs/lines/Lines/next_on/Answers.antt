@@ -1,5 +1,6 @@
 use Rattle.std.proofs.Common.{refl, sym, ◌∙◌}
-use Rattle.candump_log.proofs.LinesLaws.{gives_whole, takes_last, moved, lets_go, fetches, stops}
+use Rattle.candump_log.proofs.GivenLineLaws.{gives_whole, takes_last, moved}
+use Rattle.candump_log.proofs.FetchLaws.{lets_go, fetches, stops}
 use Rattle.candump_log.proofs.lines.Lines.next_on.Goals as goal
 
 pub invariant_of-self : goal.invariant_of-self

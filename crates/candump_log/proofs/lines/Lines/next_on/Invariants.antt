@@ -1,7 +1,7 @@
 use Rattle.std.proofs.Common.{◌≡◌, false}
 use Rattle.candump_log.specs.LinesState.{told}
 use Rattle.candump_log.specs.Steps.{work}
-use Rattle.candump_log.proofs.LinesLaws.{Goes}
+use Rattle.candump_log.proofs.LineRuleLaws.{Goes}
 use Rattle.candump_log.proofs.lines.Lines.next_on.Given as goal
 
 -- the rule holds, and no line was given yet
