@@ -8,7 +8,7 @@ use std::test::Fail;
 
 mod cases;
 
-use cases::CASES;
+use cases::{CASES, FURTHER_CASES};
 
 /// A frame's stamp, identifier, and eight bytes, the first one the highest.
 type Row = (u64, u32, u64);
@@ -76,6 +76,11 @@ fn check_cases(rt: &impl Abort, alloc: Global, cases: &[Case]) -> Result<(), Fai
 #[test]
 fn what_each_frame_brings(rt: HostRuntime) -> Result<(), Fail> {
     check_cases(&rt, rt.alloc(), &CASES)
+}
+
+#[test]
+fn what_late_odd_and_parallel_frames_bring(rt: HostRuntime) -> Result<(), Fail> {
+    check_cases(&rt, rt.alloc(), &FURTHER_CASES)
 }
 
 /// Values of this type may go to another thread.

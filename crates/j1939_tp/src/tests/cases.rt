@@ -43,6 +43,16 @@ const ABORT: u64 = 0xFFFF_FFFF_FFCA_FE00;
 
 const OTHER_ABORT: u64 = 0xFFFF_FFFF_FFCB_FE00;
 
+/// The same from source 2 to 3.
+const CM_THIRD: u32 = 0x18EC_0302;
+
+const DT_THIRD: u32 = 0x18EB_0302;
+
+/// A packet of number 0, and a control of connection management that is none here.
+const ZERO: u64 = 0x0000_0000_0000_0000;
+
+const OTHER_CONTROL: u64 = 0x120A_0002_FFCA_FE00;
+
 pub(super) const CASES: [Case; 31] = [
     Case {
         name: "a broadcast of two packets",
@@ -120,7 +130,7 @@ pub(super) const CASES: [Case; 31] = [
         name: "number 0 and a repeated packet renew the stamp",
         frames: &[
             (0, CM_THERE, RTS),
-            (1_000_000, DT_THERE, 0x0000_0000_0000_0000),
+            (1_000_000, DT_THERE, ZERO),
             (2_000_000, DT_THERE, ONE),
             (3_000_000, DT_THERE, ONE),
             (4_000_000, DT_THERE, TWO),
@@ -259,7 +269,7 @@ pub(super) const CASES: [Case; 31] = [
             (0, CM_THERE, 0x10FA_06FF_FFCA_FE00),
             (0, CM_THERE, 0x100A_0001_FFCA_FE00),
             (0, CM_THERE, 0x100A_0003_FFCA_FE00),
-            (0, CM_THERE, 0x120A_0002_FFCA_FE00),
+            (0, CM_THERE, OTHER_CONTROL),
             (0, DT, TWO),
             (0, DT_THERE, TWO),
         ],
@@ -324,5 +334,79 @@ pub(super) const CASES: [Case; 31] = [
             (0, 0x1AEB_FF00, TWO),
         ],
         answers: "-; -; -; -; -; -; -",
+    },
+];
+
+pub(super) const FURTHER_CASES: [Case; 8] = [
+    Case {
+        name: "a pause too long comes before a packet left out",
+        frames: &[(0, CM_THERE, RTS), (1_250_001, DT_THERE, TWO)],
+        answers: "-; 65226 2 1 late",
+    },
+    Case {
+        name: "a repeated packet too late",
+        frames: &[
+            (0, CM_THERE, RTS),
+            (0, DT_THERE, ONE),
+            (1_250_001, DT_THERE, ONE),
+            (1_250_001, DT_THERE, TWO),
+        ],
+        answers: "-; -; 65226 2 1 late; -",
+    },
+    Case {
+        name: "number 0 too late",
+        frames: &[(0, CM_THERE, RTS), (1_250_001, DT_THERE, ZERO)],
+        answers: "-; 65226 2 1 late",
+    },
+    Case {
+        name: "an abort too late cuts its own direction and leaves the other to the next one",
+        frames: &[
+            (0, CM_THERE, RTS),
+            (0, CM_BACK, RTS),
+            (1_250_001, CM_THERE, ABORT),
+            (1_250_001, CM_THERE, ABORT),
+            (1_250_001, CM_THERE, ABORT),
+        ],
+        answers: "-; -; 65226 2 1 late; 65226 1 2 late; -",
+    },
+    Case {
+        name: "another control neither renews nor ends a session, even too late",
+        frames: &[
+            (0, CM_THERE, RTS),
+            (1_200_000, CM_THERE, OTHER_CONTROL),
+            (1_200_000, CM_BACK, OTHER_CONTROL),
+            (1_250_001, CM_BACK, OTHER_CONTROL),
+            (1_250_001, DT_THERE, ONE),
+        ],
+        answers: "-; -; -; -; 65226 2 1 late",
+    },
+    Case {
+        name: "broadcasts of 8 and of 1,786 bytes, with a packet too few, with one too many, and of nothing",
+        frames: &[
+            (0, CM, 0x2008_0002_FFCA_FE00),
+            (0, CM, 0x20FA_06FF_FFCA_FE00),
+            (0, CM, 0x200A_0001_FFCA_FE00),
+            (0, CM, 0x200A_0003_FFCA_FE00),
+            (0, CM, 0x2000_0000_FFCA_FE00),
+            (0, DT, TWO),
+        ],
+        answers: "-; -; -; -; -; -",
+    },
+    Case {
+        name: "a request of nothing",
+        frames: &[(0, CM_THERE, 0x1000_0000_FFCA_FE00), (0, DT_THERE, ONE)],
+        answers: "-; -",
+    },
+    Case {
+        name: "one sender to two receivers, one after another's frames",
+        frames: &[
+            (0, CM_THERE, RTS),
+            (0, CM_THIRD, OTHER_RTS),
+            (0, DT_THIRD, ONE),
+            (0, DT_THERE, ONE),
+            (0, DT_THERE, TWO),
+            (0, DT_THIRD, TWO),
+        ],
+        answers: "-; -; -; -; 65226 2 1 112233445566778899AA; 65227 2 3 112233445566778899AA",
     },
 ];
