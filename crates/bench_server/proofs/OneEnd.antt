@@ -3,8 +3,8 @@ use Rattle.std.proofs.Common.{◌≡◌, inl, inr, ℕ, ◌≤◌, List, length,
 use Rattle.byte_forms.specs.Lines.{all_lines}
 use Rattle.port_io.specs.Library.{named}
 use Rattle.bench_model.specs.declared.database.Database.{Database}
-use Rattle.dbc_grammar.specs.Contract.{SpellsDatabase, IsRefusedAt}
-use Rattle.dbc_grammar.proofs.ReadLaws.{one_database, one_line, not_both}
+use Rattle.plain_dbc.specs.Contract.{SpellsDatabase, IsRefusedAt}
+use Rattle.plain_dbc.proofs.ReadLaws.{one_database, one_line, not_both}
 use Rattle.bench_server.specs.declared.log_file.Frame.{Frame}
 use Rattle.bench_server.specs.BenchFile.{BusFiles, IsBenchFault}
 use Rattle.bench_server.specs.LogFile.{IsLogFault}

@@ -4,8 +4,8 @@ use Rattle.std.proofs.lemmas.Bool.{cases_lt}
 use Rattle.byte_forms.specs.Lines.{all_lines}
 use Rattle.port_io.specs.Library.{named}
 use Rattle.bench_model.specs.declared.database.Database.{Database}
-use Rattle.dbc_grammar.specs.Contract.{SpellsDatabase, IsRefusedAt}
-use Rattle.dbc_grammar.proofs.ReadLaws.{some_answer}
+use Rattle.plain_dbc.specs.Contract.{SpellsDatabase, IsRefusedAt}
+use Rattle.plain_dbc.proofs.ReadLaws.{some_answer}
 use Rattle.bench_server.specs.declared.log_file.Frame.{Frame}
 use Rattle.bench_server.specs.BenchFile.{BusFiles, SpellsBus, SpellsNoBus, IsBench, IsBenchFault}
 use Rattle.bench_server.specs.BenchReading.{bus_of}

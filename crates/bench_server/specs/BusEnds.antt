@@ -3,7 +3,7 @@ use Rattle.std.specs.Prelude.{◌≡◌, ℕ, Bool, true, List, [], ◌∷◌, �
 use Rattle.port_io.specs.Causes.{Rose}
 use Rattle.port_io.specs.Library.{named}
 use Rattle.bench_model.specs.declared.database.Database.{Database}
-use Rattle.dbc_grammar.specs.Contract.{SpellsDatabase, IsRefusedAt}
+use Rattle.plain_dbc.specs.Contract.{SpellsDatabase, IsRefusedAt}
 use Rattle.bench_server.specs.declared.status.Status.{Status}
 use Rattle.bench_server.specs.declared.status.Status.TheVariants as status
 use Rattle.bench_server.specs.Tool.{Files, HasDatabase, RefusedAt, SpellsLog}

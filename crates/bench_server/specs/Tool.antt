@@ -5,7 +5,7 @@ use Rattle.port_io.specs.Library.{named}
 use Rattle.bench_model.specs.declared.database.Kind.TheVariants as kind
 use Rattle.bench_model.specs.declared.database.Database.{Database}
 use Rattle.bench_model.specs.declared.database.Bench.{Bench}
-use Rattle.dbc_grammar.specs.Contract.{SpellsDatabase, IsRefusedAt}
+use Rattle.plain_dbc.specs.Contract.{SpellsDatabase, IsRefusedAt}
 use Rattle.bench_server.specs.declared.log_file.Frame.{Frame}
 use Rattle.bench_server.specs.BenchFile.{BusFiles, IsBench, IsBenchFault}
 use Rattle.bench_server.specs.LogFile.{IsLog, IsLogFault}

@@ -18,8 +18,8 @@ use crate::files::{file_name, read_file, read_frames};
 use crate::log_file::Frame;
 use crate::status::DATABASE_FILE;
 use bench_model::{Bench, Bus, Database, Kind, Text};
-use dbc_grammar::{DbcFault, read_dbc};
 use multiplex_tree::List;
+use plain_dbc::{DbcFault, read_dbc};
 use port_io::{Library, Sink};
 use std::alloc::{AllocError, Global};
 

@@ -1,7 +1,7 @@
 //! The server's top calls, of which this version has one: `run_tool`, which does what the program does for
 //! the words of its command line.
 //!
-//! It stands on `port_io` for the outside, on `byte_forms` and `dbc_grammar` for the files and on
+//! It stands on `port_io` for the outside, on `byte_forms` and `plain_dbc` for the files and on
 //! `bench_model`, with the lists of `multiplex_tree`, for the meaning of frames; the program `sigserve` hands it
 //! the real files and streams.
 //! Reading the bench file and the log, and the text of the items, are private parts of it.
