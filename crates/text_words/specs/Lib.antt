@@ -1,0 +1,3 @@
+-- the lines of a text that people write, and the words of a line
+pub mod TextLines
+pub mod Words
