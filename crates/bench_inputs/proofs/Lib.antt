@@ -1,0 +1,4 @@
+pub mod AskingLaws
+pub mod FileLaws
+pub mod ReadingLaws
+pub mod OpeningLaws

@@ -1,0 +1,6 @@
+-- what a library tells, and what is asked of it
+pub mod Asking
+-- the files of a bench
+pub mod BenchFiles
+-- what the readers answer
+pub mod Reading
