@@ -1,0 +1,13 @@
+pub mod RunLaws
+pub mod PlaceLaws
+pub mod StatementLaws
+pub mod NoteLaws
+pub mod ScaleLaws
+pub mod ListLaws
+pub mod WideLaws
+pub mod RowLaws
+pub mod TreeLaws
+pub mod MadeLaws
+pub mod DatabaseLaws
+pub mod UniqueLaws
+pub mod NeverLaws

@@ -1,0 +1,14 @@
+-- the statements of the format, what they make, and the faults
+pub mod Words
+pub mod Passed
+pub mod Forms
+pub mod Naming
+pub mod Gather
+pub mod Contract
+-- how values of the code are seen
+pub mod Views
+pub mod Kept
+pub mod Places
+pub mod Noted
+pub mod Rows
+pub mod Reads
