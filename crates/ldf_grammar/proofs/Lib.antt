@@ -1,0 +1,14 @@
+pub mod UntilLaws
+pub mod GivesLaws
+pub mod LookupLaws
+pub mod StepLaws
+pub mod ScaleLaws
+pub mod RunLaws
+pub mod MadeLaws
+pub mod ReadLaws
+pub mod OneLaws
+pub mod FaultLaws
+pub mod WordLaws
+pub mod LineWordLaws
+pub mod NameLaws
+pub mod ExistLaws

@@ -1,0 +1,33 @@
+use Rattle.ldf_grammar.proofs.OneLaws.{one_made}
+use Rattle.ldf_grammar.proofs.FaultLaws.{one_fault, no_fault}
+use Rattle.ldf_grammar.proofs.laws.description_is_unique.Goals as goal
+
+pub returns-clause-one : goal.returns-clause-one
+returns-clause-one c = λ text a b p q. one_made (record {
+  tokens = c.reading_is_unique.ensures.list;
+  lexical = c.reading_is_unique.ensures.fault;
+  apart = c.reading_is_unique.ensures.never_both;
+  decimal = c.decimal_is_unique.ensures;
+  verdict = c.verdict_is_unique.ensures.one;
+  verdicts_apart = c.verdict_is_unique.ensures.never_both;
+}) text a b p.made q.made
+
+pub returns-clause-one_fault : goal.returns-clause-one_fault
+returns-clause-one_fault c = one_fault (record {
+  tokens = c.reading_is_unique.ensures.list;
+  lexical = c.reading_is_unique.ensures.fault;
+  apart = c.reading_is_unique.ensures.never_both;
+  decimal = c.decimal_is_unique.ensures;
+  verdict = c.verdict_is_unique.ensures.one;
+  verdicts_apart = c.verdict_is_unique.ensures.never_both;
+})
+
+pub returns-clause-never_both : goal.returns-clause-never_both
+returns-clause-never_both c = no_fault (record {
+  tokens = c.reading_is_unique.ensures.list;
+  lexical = c.reading_is_unique.ensures.fault;
+  apart = c.reading_is_unique.ensures.never_both;
+  decimal = c.decimal_is_unique.ensures;
+  verdict = c.verdict_is_unique.ensures.one;
+  verdicts_apart = c.verdict_is_unique.ensures.never_both;
+})
