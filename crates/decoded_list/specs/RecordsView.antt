@@ -1,6 +1,8 @@
--- The records of a line, as a list.
+-- The records of a line, as a list; and which lines are frames.
 use Rattle.std.specs.Prelude.{List, [], ◌∷◌, Option, Some, None}
 use Rattle.bench_model.specs.declared.reading.Reading.{Reading}
+use Rattle.candump_log.specs.declared.log_line.LogLine.{LogLine}
+use Rattle.candump_log.specs.declared.log_line.LogLine.TheVariants as line
 use Rattle.decoded_list.specs.declared.decoder.Records.{Records}
 
 abbrev pub one_or_none : {X : Type 0} → Option X → List X
@@ -9,3 +11,10 @@ one_or_none (Some x) = x ∷ []
 
 abbrev pub record_list : Records → List Reading
 record_list r = r.own ∷ one_or_none r.transported
+
+-- a line that is a frame of data
+abbrev pub IsFrame : LogLine → Type 0
+IsFrame (line.Frame micros key bytes) = Unit {0}
+IsFrame (line.Remote micros key) = ⊥
+IsFrame (line.Error micros id) = ⊥
+IsFrame line.Bad = ⊥

@@ -1,11 +1,11 @@
 //! What the records of a line say.
 
-ghost use Rattle.std.specs.Prelude.{◌≡◌, ◌<◌, length, All, IfOk};
+ghost use Rattle.std.specs.Prelude.{◌≡◌, ◌<◌, length, All, IfOk, OnErr, IsOk};
 ghost use Rattle.bench_model.specs.declared.reading.Ask.TheVariants as asks;
 ghost use Rattle.bench_model.specs.Check.{IsValid};
 ghost use Rattle.bench_model.specs.Meaning.{bench_meaning};
 ghost use Rattle.decoded_list.specs.Records.{frame_body, own_body, message_body, transport_bodies};
-ghost use Rattle.decoded_list.specs.RecordsView.{one_or_none};
+ghost use Rattle.decoded_list.specs.RecordsView.{one_or_none, IsFrame};
 
 use bench_model::{Ask, Bench, Body, Key, Plain, Text};
 use candump_log::LogLine;
@@ -43,7 +43,8 @@ pub(crate) fn own_body(
 ) -> Result<Body, AllocError>
     requires bus { bus < length bench.now.buses }
     requires valid { All (λ b. IsValid b.database) bench.now.buses }
-    ensures { IfOk result (λ said. said ≡ own_body (bench_meaning bench.now bus) line.now) }
+    ensures body { IfOk result (λ said. said ≡ own_body (bench_meaning bench.now bus) line.now) }
+    ensures memory { OnErr result (IsFrame line.now) }
 {
     match line {
         LogLine::Frame { key, payload, .. } => {
@@ -98,7 +99,8 @@ pub(crate) fn transport_body(
 ) -> Result<Option<Body>, AllocError>
     requires bus { bus < length bench.now.buses }
     requires valid { All (λ b. IsValid b.database) bench.now.buses }
-    ensures { IfOk result (λ said. one_or_none said ≡ transport_bodies (bench_meaning bench.now bus) brought) }
+    ensures bodies { IfOk result (λ said. one_or_none said ≡ transport_bodies (bench_meaning bench.now bus) brought) }
+    ensures none { brought ≡ TpOut.Nothing → IsOk result }
 {
     match brought {
         TpOut::Nothing => Ok(None),

@@ -5,7 +5,7 @@ ghost use Rattle.bench_model.specs.Check.{IsValid};
 ghost use Rattle.bench_model.specs.Meaning.{bench_meaning};
 ghost use Rattle.candump_log.specs.declared.log_line.LogLine.{LogLine};
 ghost use Rattle.decoded_list.specs.Records.{stamp_of, brought_on, records_at};
-ghost use Rattle.decoded_list.specs.RecordsView.{record_list};
+ghost use Rattle.decoded_list.specs.RecordsView.{record_list, IsFrame};
 ghost use Rattle.decoded_list.specs.Listening.{Listens, HasTaken};
 
 use crate::bodies::{own_body, transport_body};
@@ -52,6 +52,7 @@ pub fn listen(kind: Kind, listener: &mut Listener, line: &LogLine) -> Result<TpO
     ensures heard { (before : List LogLine) → Listens kind listener.old before
         → OnOk result (Listens kind listener.new (before ++ line.now ∷ [])) }
     ensures unchanged { OnErr result (listener.new ≡ listener.old) }
+    ensures quiet { IsFrame line.now ⊎ (result ≡ Ok TpOut.Nothing) }
 {
     match line {
         LogLine::Frame {
@@ -89,8 +90,8 @@ impl BusDecoder {
         self.next
     }
 
-    /// The records of the next line, decoded under this version of the databases. After out of memory the line has been
-    /// heard or not, and no record has been numbered.
+    /// The records of the next line, decoded under this version of the databases. Out of memory comes at frames of data
+    /// alone; the line has then been heard or not, and no record has been numbered.
     pub fn step(
         &mut self,
         bench: &Bench,
@@ -111,6 +112,7 @@ impl BusDecoder {
         ensures memory { (before : List LogLine) → HasTaken self.old before
             → OnErr result (HasTaken self.new before ⊎ HasTaken self.new (before ++ line.now ∷ [])) }
         ensures unnumbered { OnErr result (self.new.next ≡ self.old.next) }
+        ensures frame { OnErr result (IsFrame line.now) }
         ensures same { (self.new.bus ≡ self.old.bus) × (self.new.kind ≡ self.old.kind) }
     {
         let micros = stamp_of(line);
