@@ -1,9 +1,9 @@
 -- A prefix of a text of items is whole items and a prefix of the next.
-use Rattle.std.proofs.Common.{◌≡◌, ℕ, List, [], ◌∷◌, ◌++◌, refl, sym, ap, ◌∙◌, append_assoc, inl, inr, ◌⊎◌}
+use Rattle.std.proofs.Common.{◌≡◌, ℕ, List, [], ◌∷◌, ◌++◌, refl, sym, ap, ◌∙◌, append_assoc}
 use Rattle.bench_model.specs.declared.reading.Item.{Item}
 use Rattle.subscriber_text.specs.Wants.{WantList}
 use Rattle.subscriber_text.specs.ItemText.{item_text, items_text}
-use Rattle.subscriber_text.specs.Parts.{IsCutText, IsPrefixOfNext}
+use Rattle.subscriber_text.specs.Parts.{IsCutText}
 
 -- two ways to part one list: one of the first parts is a prefix of the other
 pub data Parted (a b sent rest : List ℕ) : Type 0 where

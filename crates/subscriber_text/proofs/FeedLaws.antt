@@ -1,17 +1,16 @@
 -- No line feed stands in what lines are made of.
-use Rattle.std.proofs.Common.{◌≡◌, ℕ, zero, suc, ◌+◌, ◌-◌, ◌/◌, ◌%◌, ◌^◌, ◌<◌, ◌≤◌, Bool, true, false, cond, List, [], ◌∷◌, ◌++◌, length, map, refl, sym, ap, ◌∙◌, arith, inl, inr, ℤ, pos, negsuc, Option, Some, None}
-use Rattle.std.specs.Prelude.{◌==◌, ◌&&◌, ◌||◌, not, nat_lt, flat_map, filter, unsigned_abs}
+use Rattle.std.proofs.Common.{◌≡◌, ℕ, zero, suc, ◌+◌, ◌/◌, ◌%◌, ◌^◌, ◌<◌, true, false, List, [], ◌∷◌, ◌++◌, map, refl, ◌∙◌, arith, inl, inr, ℤ, pos, negsuc}
+use Rattle.std.specs.Prelude.{◌==◌, ◌||◌, not, nat_lt, flat_map, unsigned_abs}
 use Rattle.std.specs.List.{list_all}
 use Rattle.std.specs.Fmt.{digits, digits_onto, digit_glyph, decimal, signed_decimal}
 use Rattle.std.specs.Int.Digits.{digits_of}
 use Rattle.std.proofs.lemmas.Bool.{cases_Bool}
 use Rattle.std.proofs.lemmas.Bool.Decides.{nat_tests}
-use Rattle.std.proofs.lemmas.List.Folds.{list_all-append, list_all-map}
+use Rattle.std.proofs.lemmas.List.Folds.{list_all-append}
 use Rattle.byte_forms.specs.Hexadecimal.{hex_digit, hex_digits}
 use Rattle.exact_scale.specs.Digits.{decimal_digits, last_digits}
 use Rattle.exact_scale.specs.ShortestText.{minus_of, without_last_zeros, point_text, size_text, decimal_text}
-use Rattle.bench_model.specs.declared.reading.SignalValue.{SignalValue}
-use Rattle.subscriber_text.specs.ItemText.{behind_blank, line_words, hex_bytes, quoted_byte, quoted, label_words}
+use Rattle.subscriber_text.specs.ItemText.{behind_blank, hex_bytes, quoted_byte, quoted}
 use Rattle.subscriber_text.specs.Parts.{no_feed}
 
 -- two pieces

@@ -1,12 +1,11 @@
 -- A binary search in an ordered list of wants finds what a look at each of them finds.
-use Rattle.std.proofs.Common.{◌≡◌, ℕ, ◌+◌, ◌<◌, ◌≤◌, Bool, true, false, cond, List, [], ◌∷◌, ◌++◌, length, get_or, Ok, Err, Result, refl, sym, ap, ◌∙◌, arith, inl, inr, map, subst}
+use Rattle.std.proofs.Common.{◌≡◌, ℕ, ◌+◌, ◌<◌, Bool, false, List, [], ◌∷◌, length, get_or, Ok, Err, Result, refl, sym, ap, ◌∙◌, arith, inl, inr, map}
 use Rattle.std.specs.declared.alloc.Global.{Global}
-use Rattle.std.specs.Prelude.{Vec, is_ok, ◌&&◌, ◌||◌, ◌==◌, Option, Some, None}
-use Rattle.std.specs.List.{list_any, All}
-use Rattle.std.specs.List.Sorted.{IsSorted, IsSortedBy, IsBinarySearchResult, IsNonDecreasingBy, IsSearchInRange, IsPermutation}
+use Rattle.std.specs.Prelude.{Vec, is_ok, ◌==◌, Option, Some, None}
+use Rattle.std.specs.List.{list_any}
+use Rattle.std.specs.List.Sorted.{IsSorted, IsSortedBy, IsBinarySearchResult, IsNonDecreasingBy, IsSearchInRange}
 use Rattle.std.specs.Ordering.{nat_cmp, ordering_then, is_lt, is_eq, ordering_index}
-use Rattle.std.specs.Option.{option_cmp, option_eq}
-use Rattle.std.specs.Str.{bytes_eq}
+use Rattle.std.specs.Option.{option_cmp}
 use Rattle.std.specs.Cmp.{IsTotalOrder, tied_then}
 use Rattle.std.specs.Cmp.Lexicographic.{slice_cmp, options_total}
 use Rattle.std.specs.declared.cmp.Ordering.{Ordering}
@@ -18,7 +17,7 @@ use Rattle.std.proofs.lemmas.List.{get_or-map, length-map}
 use Rattle.std.proofs.lemmas.List.Folds.{list_any_none, list_any_at}
 use Rattle.std.proofs.lemmas.List.Sorted.{searchable_from_sorted}
 use Rattle.std.proofs.lemmas.Map.Text.{is_eq-slice_cmp}
-use Rattle.subscriber_text.specs.Wants.{Want, same_name, names_bus, names_message, names_signal}
+use Rattle.subscriber_text.specs.Wants.{Want, same_name, names_message, names_signal}
 use Rattle.subscriber_text.specs.WantView.{name_view, want_view, wants_view, name_cmp, message_key, key_cmp, message_cmp, want_cmp}
 use Rattle.subscriber_text.specs.declared.want.NamedWant.{NamedWant}
 

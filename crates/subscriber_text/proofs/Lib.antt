@@ -8,3 +8,4 @@ pub mod FeedLaws
 pub mod PartLaws
 pub mod ItemPartLaws
 pub mod CutLaws
+pub mod GoLaws

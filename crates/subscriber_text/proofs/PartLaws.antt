@@ -1,15 +1,11 @@
 -- The lines of a bus in a text of items of several buses are the text of that bus's items.
-use Rattle.std.proofs.Common.{◌≡◌, ℕ, zero, suc, ◌+◌, ◌<◌, ◌≤◌, Bool, true, false, cond, List, [], ◌∷◌, ◌++◌, length, refl, sym, ap, ◌∙◌, append_assoc, arith, inl, inr, Option, Some, None}
-use Rattle.std.specs.Prelude.{◌==◌, ◌&&◌, ◌||◌, not, nat_lt, flat_map, filter, codes, slice_index_or}
+use Rattle.std.proofs.Common.{◌≡◌, ℕ, Bool, true, false, cond, List, [], ◌∷◌, ◌++◌, refl, ap, ◌∙◌, append_assoc, inl, inr}
+use Rattle.std.specs.Prelude.{◌==◌, not, filter, codes}
 use Rattle.std.specs.List.{list_all}
 use Rattle.std.specs.Str.{bytes_eq}
-use Rattle.std.proofs.lemmas.Bool.{cases_Bool, and_parts, eqb-true, eq-eqb, ltb-true, not-true}
-use Rattle.byte_forms.specs.Lines.{onto_first}
-use Rattle.subscriber_text.specs.Wants.{WantList, is_empty}
-use Rattle.subscriber_text.specs.WantLines.{is_blank, parts_of, words_of}
-use Rattle.subscriber_text.specs.ItemText.{line_of, line_words, behind_blank}
-use Rattle.subscriber_text.specs.Parts.{fed_lines, without_feed, first_word, second_word, is_signal_line, is_line_of, bus_lines, no_feed, is_one_word}
-use Rattle.subscriber_text.proofs.FeedLaws.{plain-append}
+use Rattle.std.proofs.lemmas.Bool.{cases_Bool, and_parts, eqb-true, eq-eqb}
+use Rattle.text_words.specs.Words.{is_empty, is_blank, parts_of, words_of}
+use Rattle.subscriber_text.specs.Parts.{fed_lines, without_feed, first_word, second_word, bus_lines, no_feed, is_one_word}
 
 -- what a plain list begins with, and its rest
 plain_head : (x : ℕ) (xs : List ℕ) → no_feed (x ∷ xs) ≡ true → (x == 10) ≡ false

@@ -1,11 +1,12 @@
 -- What the index of the wants finds is what the wants cover.
-use Rattle.std.proofs.Common.{◌≡◌, ℕ, ◌<◌, Bool, true, false, List, [], ◌∷◌, length, map, refl, sym, ap, ◌∙◌}
-use Rattle.std.specs.Prelude.{◌||◌, ◌&&◌, nat_lt}
+use Rattle.std.proofs.Common.{◌≡◌, ℕ, ◌<◌, Bool, false, List, [], ◌∷◌, length, map, refl, sym}
+use Rattle.std.specs.Prelude.{◌||◌}
 use Rattle.std.specs.List.{list_any}
 use Rattle.std.specs.List.Sorted.{IsPermutation}
 use Rattle.std.proofs.lemmas.Bool.{lt-ltb}
 use Rattle.std.proofs.lemmas.List.Sorted.{list_any-IsPermutation}
-use Rattle.subscriber_text.specs.Wants.{Want, WantList, is_empty, wants_by, wants_bus, names_bus}
+use Rattle.text_words.specs.Words.{is_empty}
+use Rattle.subscriber_text.specs.Wants.{Want, WantList, wants_by, wants_bus, names_bus}
 
 -- a test of the index is one of the wants
 pub any_indexed : (test : Want → Bool) (wants index : List Want) → IsPermutation wants index → list_any test index ≡ list_any test wants

@@ -20,13 +20,13 @@ abbrev pub behind_blank : List ℕ → List ℕ
 behind_blank word = 32 ∷ word
 
 -- words: the first, and each other one behind a blank
-abbrev pub line_words : List (List ℕ) → List ℕ
-line_words [] = []
-line_words (word ∷ words) = word ++ flat_map behind_blank words
+abbrev pub text_of_words : List (List ℕ) → List ℕ
+text_of_words [] = []
+text_of_words (word ∷ words) = word ++ flat_map behind_blank words
 
 -- a line of words
 abbrev pub line_of : List (List ℕ) → List ℕ
-line_of words = line_words words ++ 10 ∷ []
+line_of words = text_of_words words ++ 10 ∷ []
 
 -- two hexadecimal digits a byte
 abbrev pub hex_bytes : List ℕ → List ℕ

@@ -4,6 +4,7 @@ pub mod WantLines
 pub mod ItemText
 pub mod Prints
 pub mod Parts
+pub mod BeforeGo
 -- how values of the code are seen
 pub mod Plain
 pub mod WantView

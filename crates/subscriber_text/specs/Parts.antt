@@ -1,13 +1,13 @@
 -- The part of a text that is of one bus.
-use Rattle.std.specs.Prelude.{◌≡◌, ℕ, ◌<◌, ◌==◌, ◌&&◌, Bool, true, false, not, List, [], ◌∷◌, ◌++◌, codes, drop, filter, length, slice_index_or, Option, Some, None, if◌then◌else◌}
+use Rattle.std.specs.Prelude.{◌≡◌, ℕ, ◌<◌, ◌==◌, ◌&&◌, Bool, true, false, not, List, [], ◌∷◌, ◌++◌, codes, filter, length, slice_index_or, Option, Some, None, if◌then◌else◌}
 use Rattle.std.specs.List.{list_all}
 use Rattle.std.specs.Str.{bytes_eq}
 use Rattle.byte_forms.specs.Lines.{onto_first}
 use Rattle.bench_model.specs.declared.reading.SignalValue.{SignalValue}
 use Rattle.bench_model.specs.declared.reading.Item.{Item}
 use Rattle.bench_model.specs.declared.reading.Item.TheVariants as item
-use Rattle.subscriber_text.specs.Wants.{WantList, is_empty}
-use Rattle.subscriber_text.specs.WantLines.{is_blank, words_of}
+use Rattle.text_words.specs.Words.{is_empty, is_blank, words_of}
+use Rattle.subscriber_text.specs.Wants.{WantList}
 use Rattle.subscriber_text.specs.ItemText.{header_text, message_of, signals_of, item_text, items_text}
 
 -- the lines of a text, each with its line feed; the last one has none where the text does not end in one
@@ -50,9 +50,9 @@ bus_lines bus before (line ∷ lines) =
 abbrev pub part_of : List ℕ → List ℕ → List ℕ
 part_of text bus = bus_lines bus false (fed_lines text)
 
--- what follows the header in a session's text
-abbrev pub rest_of : WantList → List ℕ → List ℕ
-rest_of w sent = drop (length (header_text w)) sent
+-- a session's text is the header of its format, and then this rest
+abbrev pub IsBehindHeader : WantList → List ℕ → List ℕ → Type 0
+IsBehindHeader w sent rest = sent ≡ header_text w ++ rest
 
 -- the bus of an item
 abbrev pub bus_of : Item → ℕ

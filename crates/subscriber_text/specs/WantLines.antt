@@ -1,29 +1,14 @@
 -- How a subscriber asks: lines of words, the first of which may name the format, and each other one a want.
-use Rattle.std.specs.Prelude.{ℕ, ◌+◌, ◌==◌, ◌||◌, ◌&&◌, Bool, true, false, not, List, [], ◌∷◌, codes, filter, position, Option, Some, None, Result, Ok, Err, if◌then◌else◌}
+use Rattle.std.specs.Prelude.{ℕ, ◌+◌, List, [], ◌∷◌, codes, position, Option, Some, None, Result, Ok, Err, if◌then◌else◌}
 use Rattle.std.specs.Str.{bytes_eq}
-use Rattle.byte_forms.specs.Lines.{all_lines, onto_first}
-use Rattle.subscriber_text.specs.Wants.{Want, WantList, is_empty}
+use Rattle.byte_forms.specs.Lines.{all_lines}
+use Rattle.text_words.specs.Words.{words_of}
+use Rattle.text_words.specs.TextLines.{without_return}
+use Rattle.subscriber_text.specs.Wants.{Want, WantList}
 use Rattle.subscriber_text.specs.declared.fault.WantsFault.{WantsFault}
 use Rattle.subscriber_text.specs.declared.fault.WantsFault.TheVariants.{Line, UnknownBus}
 
--- blanks are the space and the tab
-abbrev pub is_blank : ℕ → Bool
-is_blank b = b == 32 || b == 9
-
--- the parts of a line before, between and behind its blanks
-unfoldable pub parts_of : List ℕ → List (List ℕ)
-parts_of [] = [] ∷ []
-parts_of (b ∷ bs) = if is_blank b then [] ∷ parts_of bs else onto_first b (parts_of bs)
-
--- its words: the parts that are not empty
-abbrev pub words_of : List ℕ → List (List ℕ)
-words_of line = filter (λ part. not (is_empty part)) (parts_of line)
-
--- a carriage return at the end of a line is dropped
-unfoldable pub without_return : List ℕ → List ℕ
-without_return [] = []
-without_return (b ∷ bs) = if b == 13 && is_empty bs then [] else b ∷ without_return bs
-
+-- the words of a line, of which a carriage return at its end is none
 abbrev pub line_words : List ℕ → List (List ℕ)
 line_words line = words_of (without_return line)
 

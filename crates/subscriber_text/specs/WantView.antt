@@ -1,5 +1,5 @@
 -- Wants, words and lists of the code as the definitions see them.
-use Rattle.std.specs.Prelude.{◌≡◌, ℕ, List, map, Option, Vec}
+use Rattle.std.specs.Prelude.{ℕ, List, map, Option, Vec}
 use Rattle.std.specs.declared.cmp.Ordering.{Ordering}
 use Rattle.std.specs.Ordering.{nat_cmp, ordering_then}
 use Rattle.std.specs.Cmp.Lexicographic.{slice_cmp}

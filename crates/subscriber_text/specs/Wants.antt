@@ -3,6 +3,7 @@ use Rattle.std.specs.Prelude.{ℕ, ◌==◌, ◌&&◌, ◌||◌, Bool, true, fal
 use Rattle.std.specs.List.{list_any}
 use Rattle.std.specs.Option.{option_eq}
 use Rattle.std.specs.Str.{bytes_eq}
+use Rattle.text_words.specs.Words.{is_empty}
 
 -- A want: all of the bus at this place where no message is named, all of the messages of this name where no
 -- signal is named, else that signal of them.
@@ -17,10 +18,6 @@ pub record WantList : Type 0 where
   pub format : ℕ
   pub names : List (List ℕ)
   pub wants : List Want
-
-abbrev pub is_empty : {A : Type 0} → List A → Bool
-is_empty [] = true
-is_empty (x ∷ xs) = false
 
 -- everything is wanted, or some want passes the test
 abbrev pub wants_by : WantList → (Want → Bool) → Bool

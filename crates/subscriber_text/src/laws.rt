@@ -1,12 +1,13 @@
 //! Laws of the text of items. Each function is a law: it does nothing, and its clauses are proved of the
 //! definitions.
 
-ghost use Rattle.std.specs.Prelude.{◌≡◌, ◌<◌, ◌++◌, ℕ, List, length, true};
-ghost use Rattle.std.specs.List.{list_all};
+ghost use Rattle.std.specs.Prelude.{◌≡◌, ◌<◌, ◌∷◌, ◌++◌, ℕ, Bool, List, length, true, false, Some, None};
+ghost use Rattle.std.specs.List.{list_all, list_any};
 ghost use Rattle.bench_model.specs.declared.reading.Item.{Item};
 ghost use Rattle.subscriber_text.specs.Wants.{WantList};
+ghost use Rattle.subscriber_text.specs.BeforeGo.{is_go, before_go, bytes_of};
 ghost use Rattle.subscriber_text.specs.ItemText.{bus_name, items_text};
-ghost use Rattle.subscriber_text.specs.Parts.{AreBusNames, is_plainly_named, part_of, items_of, IsCutText};
+ghost use Rattle.subscriber_text.specs.Parts.{fed_lines, AreBusNames, is_plainly_named, part_of, items_of, IsCutText, IsBehindHeader};
 
 /// In a text of items of several buses the part of a bus is the text of its items: where the names of the buses are
 /// different words, and no line feed stands in the names of messages and signals.
@@ -22,4 +23,21 @@ pub fn a_prefix_of_items_is_whole_but_for_the_last()
     ensures { (wants : WantList) (items : List Item) (sent rest : List ℕ)
         → items_text wants items ≡ sent ++ rest
         → IsCutText wants items sent }
+{}
+
+/// The lines of a text are its bytes; and the wants of a subscriber are the lines before the first `GO`, none of which is
+/// that line.
+pub fn the_wants_end_at_the_first_go()
+    ensures bytes { (bytes : List ℕ) → bytes_of (fed_lines bytes) ≡ bytes }
+    ensures go { (last : Bool) (lines before : List (List ℕ)) → before_go last lines ≡ Some before
+        → (line : List ℕ) × (after : List (List ℕ)) × (lines ≡ before ++ line ∷ after)
+        × (is_go last line ≡ true) × (list_any (is_go last) before ≡ false) }
+    ensures none { (last : Bool) (lines : List (List ℕ)) → before_go last lines ≡ None
+        → list_any (is_go last) lines ≡ false }
+{}
+
+/// A text has one rest behind the header, if it begins with that.
+pub fn the_rest_behind_the_header_is_one()
+    ensures { (wants : WantList) (sent rest other : List ℕ) → IsBehindHeader wants sent rest
+        → IsBehindHeader wants sent other → rest ≡ other }
 {}

@@ -1,13 +1,14 @@
 //! What a subscriber wants, and the text that it is sent.
 //!
-//! `Wants::read` reads a subscriber's wants, and `append` and `print` write the items that they cover, as the
-//! tool prints them and a server sends them. It stands on `bench_model` for the items, on `exact_scale` and
-//! `byte_forms` for numbers and lines, and on `port_io` for the sink.
+//! `wants_before_go` finds where a subscriber's wants end, `Wants::read` reads them, and `append` and `print`
+//! write the items that they cover, as the tool prints them and a server sends them. It stands on `bench_model`
+//! for the items, on `exact_scale` and `byte_forms` for numbers and lines, and on `port_io` for the sink.
 //!
 //! Main theorem: unless memory runs out, `append` adds exactly the text of the item under the wants, and
 //! `Wants::read` gives exactly the wants of the lines, or names the first line that is faulty.
 #![tactic(auto)]
 
+mod before_go;
 mod bytes;
 mod fault;
 mod index;
@@ -20,12 +21,13 @@ mod record;
 mod signal;
 mod want;
 mod wants;
-mod words;
 
+pub use before_go::{Asking, wants_before_go};
 pub use fault::{PrintRefused, WantsFault};
 pub use item::append;
 pub use laws::{
     a_prefix_of_items_is_whole_but_for_the_last, the_part_of_a_bus_is_the_text_of_its_items,
+    the_rest_behind_the_header_is_one, the_wants_end_at_the_first_go,
 };
 pub use printing::{header, print};
 pub use wants::Wants;

@@ -1,7 +1,7 @@
 //! Lines of words, appended to a buffer.
 
 ghost use Rattle.std.specs.Prelude.{◌∷◌, ◌≡◌, ◌++◌, OnOk};
-ghost use Rattle.subscriber_text.specs.ItemText.{behind_blank, line_words, line_of};
+ghost use Rattle.subscriber_text.specs.ItemText.{behind_blank, text_of_words, line_of};
 ghost use Rattle.subscriber_text.specs.WantView.{texts};
 ghost use Rattle.exact_scale.specs.Buffer.{Extends};
 
@@ -23,7 +23,7 @@ pub(crate) fn append_words(
     first: &[u8],
     words: &[&[u8]],
 ) -> Result<(), AllocError>
-    ensures ok { OnOk result (out.new.items ≡ out.old.items ++ line_words (first.now ∷ texts words.now)) }
+    ensures ok { OnOk result (out.new.items ≡ out.old.items ++ text_of_words (first.now ∷ texts words.now)) }
     ensures grows { Extends out.old.items out.new.items }
 {
     out.extend_from_slice(first)?;

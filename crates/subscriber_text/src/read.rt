@@ -3,16 +3,17 @@
 ghost use Rattle.std.specs.Prelude.{◌≡◌, position, [], ◌∷◌, ◌++◌, OnOk, ◌⊎◌, ◌+◌, ◌<◌, ◌^◌, ℕ, List, length, Ok, Err, IfOk, IfErr};
 ghost use Rattle.std.specs.Str.{bytes_eq};
 ghost use Rattle.byte_forms.specs.Lines.{all_lines};
-ghost use Rattle.subscriber_text.specs.WantLines.{format_of, format_number, want_at, want_of, want_named, want_line, words_of, lines_wants, in_format, asked};
+ghost use Rattle.text_words.specs.Words.{words_of};
+ghost use Rattle.subscriber_text.specs.WantLines.{format_of, format_number, want_at, want_of, want_named, want_line, lines_wants, in_format, asked};
 ghost use Rattle.subscriber_text.specs.WantView.{wants_view, name_of, name_view};
 ghost use Rattle.subscriber_text.specs.LineView.{line_view};
 
 use crate::want::NamedWant;
-use crate::words::{next_word, without_return};
 use crate::{Wants, WantsFault};
 use bench_model::Text;
 use byte_forms::next_line;
 use std::alloc::{AllocError, Global};
+use text_words::{next_word, without_return};
 
 /// What a line says that is to be a want.
 #[derive(Clone, Copy)]

@@ -5,7 +5,7 @@ ghost use Rattle.bench_model.specs.declared.reading.Body.TheVariants as Bodies;
 ghost use Rattle.bench_model.specs.declared.reading.Item.TheVariants as Items;
 ghost use Rattle.std.specs.Fmt.{decimal};
 ghost use Rattle.byte_forms.specs.Hexadecimal.{hex_digits};
-ghost use Rattle.subscriber_text.specs.ItemText.{hex_bytes, key_text, cause_text, begin_stamped, group_text, name_or_dash, message_of, signals_of, record_words, line_words, line_of, item_text};
+ghost use Rattle.subscriber_text.specs.ItemText.{hex_bytes, key_text, cause_text, begin_stamped, group_text, name_or_dash, message_of, signals_of, record_words, text_of_words, line_of, item_text};
 ghost use Rattle.subscriber_text.specs.WantView.{name_of};
 ghost use Rattle.exact_scale.specs.Buffer.{Extends};
 
@@ -49,7 +49,7 @@ fn append_begin(
     bus: &[u8],
     reading: &Reading,
 ) -> Result<(), AllocError>
-    ensures ok { OnOk result (out.new.items ≡ out.old.items ++ line_words
+    ensures ok { OnOk result (out.new.items ≡ out.old.items ++ text_of_words
         (begin_stamped letter.now bus.now reading.now [])) }
     ensures grows { Extends out.old.items out.new.items }
 {

@@ -5,6 +5,7 @@ use port_io::MemSink;
 use std::alloc::{AllocError, Global};
 use std::test::*;
 
+mod before_go;
 mod items;
 mod wants;
 

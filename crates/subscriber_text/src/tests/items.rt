@@ -8,6 +8,11 @@ const SHORT: Key = Key {
     id: 0x123,
 };
 
+const LOW: Key = Key {
+    extended: false,
+    id: 0x7,
+};
+
 const LONG: Key = Key {
     extended: true,
     id: 0x0CF0_0400,
@@ -33,6 +38,7 @@ fn frames(alloc: Global) -> Result<Vec<Item>, AllocError> {
             },
         ),
         record(1, 1_000_001, Body::Remote { key: SHORT }),
+        record(1, 1_000_001, Body::Remote { key: LOW }),
         record(2, 1_000_002, Body::Error { id: 0x2000_0004 }),
         record(3, 0, Body::Bad),
         Item::End { bus: 0, number: 4 },
@@ -45,6 +51,7 @@ const FRAMES: &[u8] = b"start A 18446744073709551615\n\
 u A 0 0 1000000 123#AA0B\n\
 u A 1 0 5 0CF00400#\n\
 r A 1 0 1000001 123\n\
+r A 1 0 1000001 007\n\
 e A 2 0 1000002 20000004\n\
 x A 3 0\n\
 end A 4\n";
@@ -135,8 +142,43 @@ fn format_2_tells_more_of_a_gap(rt: HostRuntime) -> Result<(), Fail> {
     let alloc = rt.alloc();
     let wants = Wants::read(alloc, &buses(alloc)?, b"")?;
     assert_eq!(rt; wants.format(), 2);
+    let text = text_of(alloc, &wants, &frames(alloc)?)?;
+    assert_eq!(rt; text.as_slice(), FRAMES);
     let text = text_of(alloc, &wants, &transports(alloc)?)?;
     assert_eq!(rt; text.as_slice(), SECOND_TRANSPORTS);
+    Ok(())
+}
+
+#[test]
+fn a_signal_without_label_or_unit_has_none(rt: HostRuntime) -> Result<(), Fail> {
+    let alloc = rt.alloc();
+    let mut signals = Vec::new(alloc);
+    signals.push(SignalValue {
+        name: Text::of(alloc, b"Speed")?,
+        raw: 4000,
+        value: Exact { num: 8000, k: 0 },
+        unit: Text::of(alloc, b"rpm")?,
+        label: None,
+    })?;
+    signals.push(signal(alloc, b"Gear", 1, Exact { num: 1, k: 0 }, b"", b"First")?)?;
+    let items = one(alloc, message(alloc, b"Engine", signals)?)?;
+    let wants = Wants::all(alloc, &buses(alloc)?)?;
+    let text = text_of(alloc, &wants, &items)?;
+    let expected =
+        b"m A 0 0 1000000 Engine\ns Speed 4000 8000 \"rpm\"\ns Gear 1 1 \"\" \"First\"\n";
+    assert_eq!(rt; text.as_slice(), expected.as_slice());
+    Ok(())
+}
+
+/// Values of this type may go to another thread, and may be dropped there.
+fn assert_goes<T: Send + Drop>(_value: &T) {}
+
+#[test]
+fn wants_and_faults_go_to_another_thread(rt: HostRuntime) -> Result<(), Fail> {
+    let alloc = rt.alloc();
+    assert_goes(&Wants::all(alloc, &buses(alloc)?)?);
+    assert_goes(&WantsFault::Line { n: 1 });
+    assert_goes(&PrintRefused::Memory);
     Ok(())
 }
 

@@ -13,7 +13,7 @@ fn answer(alloc: Global, text: &[u8]) -> Result<Result<u32, WantsFault>, AllocEr
 }
 
 /// Texts of wants, and what reading them answers.
-const TEXTS: [(&[u8], Result<u32, WantsFault>); 17] = [
+const TEXTS: [(&[u8], Result<u32, WantsFault>); 20] = [
     (b"", Ok(2)),
     (b"WANT A\n", Ok(2)),
     (b"FORMAT 1\n", Ok(1)),
@@ -22,6 +22,9 @@ const TEXTS: [(&[u8], Result<u32, WantsFault>); 17] = [
     (b"WANT A\nWANTED\n", Err(WantsFault::Line { n: 2 })),
     (b"WANT Z\n", Err(WantsFault::UnknownBus { n: 1 })),
     (b"WANT A\nFORMAT 1\n", Err(WantsFault::Line { n: 2 })),
+    (b"WANT A\nFORMAT 2\n", Err(WantsFault::Line { n: 2 })),
+    (b"FORMAT 2\nFORMAT 2\n", Err(WantsFault::Line { n: 2 })),
+    (b"WANT A\r", Ok(2)),
     (b"FORMAT 3\n", Err(WantsFault::Line { n: 1 })),
     (b"FORMAT 01\n", Err(WantsFault::Line { n: 1 })),
     (b"FORMAT 1 1\n", Err(WantsFault::Line { n: 1 })),
@@ -65,10 +68,11 @@ fn lines(alloc: Global, count: u32) -> Result<Vec<u8>, AllocError> {
 fn a_text_of_65535_bytes_is_read(rt: HostRuntime) -> Result<(), Fail> {
     let alloc = rt.alloc();
     let mut text = lines(alloc, 9362)?;
-    assert_eq!(rt; answer(alloc, &text)?, Ok(2));
     text.push(b'\n')?;
     assert_eq!(rt; text.len(), 65_535);
     assert_eq!(rt; answer(alloc, &text)?, Err(WantsFault::Line { n: 9363 }));
+    text[65_533] = b' ';
+    assert_eq!(rt; answer(alloc, &text)?, Ok(2));
     Ok(())
 }
 
@@ -123,6 +127,81 @@ fn covers(
 fn wants_cover_a_bus_a_message_or_a_signal(rt: HostRuntime) -> Result<(), Fail> {
     let items = engine(rt.alloc())?;
     covers(&rt, rt.alloc(), &items, COVERED.as_slice())
+}
+
+/// A message in packets, with two signals.
+fn lamps(alloc: Global) -> Result<Vec<Item>, AllocError> {
+    let mut signals = Vec::new(alloc);
+    let one_lamp = Exact { num: 1, k: 0 };
+    let count = Exact { num: 3, k: 0 };
+    signals.push(signal(alloc, b"Lamp", 1, one_lamp, b"", b"on")?)?;
+    signals.push(signal(alloc, b"Count", 3, count, b"", b"few")?)?;
+    let body = Body::Transport {
+        pgn: 65226,
+        sa: 0,
+        da: 255,
+        bytes: Text::of(alloc, b"\x01\x03")?,
+        name: Some(Text::of(alloc, b"DM1")?),
+        signals: List::of(signals),
+    };
+    one(alloc, record(3, 5, body))
+}
+
+const LAMPS: &[u8] = b"t A 3 0 5 65226 0 255 0103 DM1\n\
+s Lamp 1 1 \"\" \"on\"\n\
+s Count 3 3 \"\" \"few\"\n";
+
+const LAMP: &[u8] = b"t A 3 0 5 65226 0 255 0103 DM1\ns Lamp 1 1 \"\" \"on\"\n";
+
+/// Wants, and what they leave of that record.
+const TRANSPORTED: [(&[u8], &[u8]); 4] = [
+    (b"WANT A DM1", LAMPS),
+    (b"WANT A DM1 Lamp", LAMP),
+    (b"WANT A - Lamp\nWANT A -", b""),
+    (b"WANT Bus2 DM1", b""),
+];
+
+#[test]
+fn wants_cover_a_message_in_packets(rt: HostRuntime) -> Result<(), Fail> {
+    let items = lamps(rt.alloc())?;
+    covers(&rt, rt.alloc(), &items, TRANSPORTED.as_slice())
+}
+
+/// A start, a gap and an end of a bus.
+fn marks(alloc: Global, bus: u32) -> Result<Vec<Item>, AllocError> {
+    let missed = Missed {
+        first: 2,
+        count: 3,
+        first_micros: 20,
+        last_micros: 40,
+        first_version: 0,
+        last_version: 7,
+    };
+    let items = [
+        Item::Start {
+            bus,
+            number: 2,
+            turn: 1,
+        },
+        Item::Gap { bus, missed },
+        Item::End { bus, number: 5 },
+    ];
+    Vec::from_array(alloc, items).map_err(AllocError::from)
+}
+
+const MARKS: &[u8] = b"start A 2\ng A 2 3 20 40 0 7\nend A 5\n";
+
+#[test]
+fn starts_gaps_and_ends_are_wanted_with_anything_of_the_bus(rt: HostRuntime) -> Result<(), Fail> {
+    let alloc = rt.alloc();
+    let some = [
+        (b"WANT A Engine Speed".as_slice(), MARKS),
+        (b"WANT A None".as_slice(), MARKS),
+        (b"WANT Bus2 Engine".as_slice(), b"".as_slice()),
+    ];
+    covers(&rt, alloc, &marks(alloc, 0)?, some.as_slice())?;
+    let past = [(b"".as_slice(), b"".as_slice())];
+    covers(&rt, alloc, &marks(alloc, 2)?, past.as_slice())
 }
 
 #[test]

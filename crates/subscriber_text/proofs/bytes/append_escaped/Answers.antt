@@ -1,7 +1,6 @@
 use Rattle.std.proofs.lemmas.List.{take_rest}
-use Rattle.std.proofs.Common.{◌++◌, ◌<◌, ℕ, ◌+◌, ◌-◌, ◌≤◌, ◌≡◌, sym, length, arith, inl, inr, ⊎_elim, ap, ◌∙◌, true, get_or, rules, subst}
+use Rattle.std.proofs.Common.{◌++◌, ◌≡◌, arith, inl, inr, ap, ◌∙◌, rules}
 use Rattle.std.proofs.lemmas.Bool.{cases_lt}
-use Rattle.subscriber_text.specs.Plain.{is_plain, escaped}
 use Rattle.subscriber_text.proofs.QuoteLaws.{escaped-step, escaped-end}
 use Rattle.subscriber_text.proofs.bytes.append_escaped.Goals as goal
 use Rattle.subscriber_text.proofs.bytes.append_escaped.Goals.{then-not-is_plain+in_ok-extend_from_slice+in_ok-append_escape, else-not-is_plain}

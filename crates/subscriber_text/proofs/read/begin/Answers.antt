@@ -1,6 +1,7 @@
-use Rattle.std.proofs.Common.{sym, ◌∙◌, ap, rules}
+use Rattle.std.proofs.Common.{◌∙◌, ap, rules}
 use Rattle.byte_forms.specs.Lines.{all_lines}
-use Rattle.subscriber_text.specs.WantLines.{format_of, words_of}
+use Rattle.text_words.specs.Words.{words_of}
+use Rattle.subscriber_text.specs.WantLines.{format_of}
 use Rattle.subscriber_text.proofs.ReadLaws.{asked-named, asked-unnamed, asked-empty}
 use Rattle.subscriber_text.proofs.read.begin.Goals as goal
 

@@ -1,7 +1,8 @@
-use Rattle.std.proofs.Common.{◌≡◌, ◌+◌, [], ◌∷◌, sym, ◌∙◌, ap, refl, inr, arith, rules}
+use Rattle.std.proofs.Common.{◌+◌, sym, ◌∙◌, ap, refl, inr, arith, rules}
 use Rattle.byte_forms.specs.Lines.{all_lines}
+use Rattle.text_words.specs.Words.{words_of}
 use Rattle.subscriber_text.specs.Wants.{Want}
-use Rattle.subscriber_text.specs.WantLines.{WantLine, IsWant, OfNoBus, OtherForm, want_line, words_of, lines_wants}
+use Rattle.subscriber_text.specs.WantLines.{OfNoBus, OtherForm, want_line, lines_wants}
 use Rattle.subscriber_text.specs.WantView.{name_of, wants_view}
 use Rattle.subscriber_text.specs.declared.fault.WantsFault.TheVariants as faults
 use Rattle.subscriber_text.proofs.ReadLaws.{onto_all, onto_all-none, line_fault, line_read, lines_read}

@@ -1,4 +1,3 @@
-use Rattle.std.proofs.Common.{sym, ◌∙◌, ap}
 use Rattle.std.proofs.lemmas.Result.{on_ok_weaker}
 use Rattle.subscriber_text.specs.WantView.{name_of}
 use Rattle.subscriber_text.proofs.RecordLaws.{reading_written}

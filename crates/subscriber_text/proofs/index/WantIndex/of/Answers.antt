@@ -1,9 +1,7 @@
-use Rattle.std.proofs.Common.{◌≡◌, map, take, length, sym, ap, ◌∙◌, subst, refl, arith}
-use Rattle.std.specs.List.Sorted.{IsPermutation}
+use Rattle.std.proofs.Common.{◌≡◌, take, sym, ap, ◌∙◌, arith}
 use Rattle.std.specs.Ordering.{is_lt}
 use Rattle.std.proofs.lemmas.List.{take_all}
 use Rattle.std.proofs.lemmas.List.Sorted.{IsPermutation-map}
-use Rattle.subscriber_text.specs.Wants.{Want}
 use Rattle.subscriber_text.specs.WantView.{want_view, wants_view, want_cmp}
 use Rattle.subscriber_text.proofs.IndexLaws.{sorted_map, derived_cmp, derived_order}
 use Rattle.subscriber_text.proofs.index.WantIndex.of.Goals as goal

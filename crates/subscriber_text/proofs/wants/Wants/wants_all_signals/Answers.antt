@@ -1,5 +1,5 @@
-use Rattle.std.proofs.Common.{◌≡◌, ◌∙◌, None, false, ap, sym}
-use Rattle.subscriber_text.specs.Wants.{WantList, names_signal, wants_whole_bus}
+use Rattle.std.proofs.Common.{◌≡◌, ◌∙◌, None, false, sym}
+use Rattle.subscriber_text.specs.Wants.{names_signal, wants_whole_bus}
 use Rattle.subscriber_text.specs.WantView.{name_of, wants_view}
 use Rattle.subscriber_text.proofs.WantLaws.{or_index}
 use Rattle.subscriber_text.proofs.wants.Wants.wants_all_signals.Goals as goal

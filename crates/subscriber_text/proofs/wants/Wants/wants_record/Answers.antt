@@ -1,5 +1,5 @@
-use Rattle.std.proofs.Common.{◌≡◌, ◌∙◌, false, ap, sym}
-use Rattle.subscriber_text.specs.Wants.{WantList, names_message, wants_whole_bus}
+use Rattle.std.proofs.Common.{◌≡◌, ◌∙◌, false, sym}
+use Rattle.subscriber_text.specs.Wants.{names_message, wants_whole_bus}
 use Rattle.subscriber_text.specs.WantView.{name_of, wants_view}
 use Rattle.subscriber_text.proofs.WantLaws.{or_index}
 use Rattle.subscriber_text.proofs.wants.Wants.wants_record.Goals as goal

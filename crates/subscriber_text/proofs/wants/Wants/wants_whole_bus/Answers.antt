@@ -1,6 +1,7 @@
 use Rattle.std.proofs.Common.{◌≡◌, ◌∙◌, None, false, arith}
 use Rattle.std.proofs.lemmas.Bool.Decides.{nat_tests}
-use Rattle.subscriber_text.specs.Wants.{is_empty, WantList, names_message}
+use Rattle.text_words.specs.Words.{is_empty}
+use Rattle.subscriber_text.specs.Wants.{WantList, names_message}
 use Rattle.subscriber_text.specs.WantView.{want_view, wants_view}
 use Rattle.subscriber_text.proofs.WantLaws.{is_empty-map, by_index}
 use Rattle.subscriber_text.proofs.wants.Wants.wants_whole_bus.Goals as goal

@@ -1,7 +1,0 @@
-use Rattle.std.proofs.Common.{◌≡◌, ℕ, ◌<◌, get_or}
-use Rattle.subscriber_text.specs.WantLines.{is_blank}
-use Rattle.subscriber_text.proofs.words.run_len.Given as goal
-
--- the bytes so far are all blanks, or none of them is
-abbrev pub invariant-loop-i : goal.invariant-loop-i
-invariant-loop-i l = (k : ℕ) → k < l.i → is_blank (get_or l.bytes k 0) ≡ l.blank

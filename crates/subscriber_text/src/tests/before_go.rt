@@ -1,0 +1,97 @@
+//! What stands before the line `GO`.
+
+use super::*;
+use std::process::Abort;
+
+/// The first bytes of an input, whether it has ended, and what they say.
+const INPUTS: [(&[u8], bool, Asking); 17] = [
+    (b"", false, Asking::Open),
+    (b"", true, Asking::Gone),
+    (b"GO\n", false, Asking::Go { wants: 0 }),
+    (b"GO", false, Asking::Open),
+    (b"GO", true, Asking::Go { wants: 0 }),
+    (
+        b"WANT A\nGO\r\nWANT B\nGO\n",
+        false,
+        Asking::Go { wants: 7 },
+    ),
+    (b"WANT A\n\tGO \n", false, Asking::Go { wants: 7 }),
+    (b"\n\nGO\n", false, Asking::Go { wants: 2 }),
+    (b"GOX\nGO\n", false, Asking::Go { wants: 4 }),
+    (b"GO X\nGO\n", false, Asking::Go { wants: 5 }),
+    (b"go\n", false, Asking::Open),
+    (b"go\n", true, Asking::Gone),
+    (b"WANT A\n", true, Asking::Gone),
+    (b"WANT A", true, Asking::Gone),
+    (b"WANT A\nGO", false, Asking::Open),
+    (b"WANT A\nGO", true, Asking::Go { wants: 7 }),
+    (b"GO\r \nGO\n", false, Asking::Go { wants: 5 }),
+];
+
+fn say(rt: &impl Abort, inputs: &[(&[u8], bool, Asking)]) {
+    for (bytes, ended, expected) in inputs {
+        if bytes.len() <= 65_536 {
+            assert_eq!(rt; wants_before_go(bytes, *ended), *expected);
+        }
+    }
+}
+
+#[test]
+fn the_first_line_with_go_alone_ends_the_wants(rt: HostRuntime) {
+    say(&rt, &INPUTS)
+}
+
+/// Line feeds, and this behind them.
+fn behind_feeds(alloc: Global, feeds: usize, end: &[u8]) -> Result<Vec<u8>, AllocError> {
+    let mut text = vec![in alloc; b'\n'; feeds]?;
+    text.extend_from_slice(end)?;
+    Ok(text)
+}
+
+/// So many line feeds and this behind them say so.
+fn says(
+    rt: &impl Abort,
+    alloc: Global,
+    feeds: usize,
+    end: &[u8],
+    ended: bool,
+    expected: Asking,
+) -> Result<(), Fail> {
+    let text = behind_feeds(alloc, feeds, end)?;
+    assert!(rt; text.len() <= 65_536);
+    assert_eq!(rt; wants_before_go(&text, ended), expected);
+    Ok(())
+}
+
+#[test]
+fn its_end_stands_among_the_first_65536_bytes(rt: HostRuntime) -> Result<(), Fail> {
+    let alloc = rt.alloc();
+    says(
+        &rt,
+        alloc,
+        65_533,
+        b"GO\n",
+        false,
+        Asking::Go { wants: 65_533 },
+    )?;
+    says(&rt, alloc, 65_534, b"GO", true, Asking::Long { n: 65_535 })?;
+    says(
+        &rt,
+        alloc,
+        65_533,
+        b"GO",
+        true,
+        Asking::Go { wants: 65_533 },
+    )?;
+    says(&rt, alloc, 65_533, b"GO", false, Asking::Open)?;
+    says(&rt, alloc, 65_536, b"", false, Asking::Long { n: 65_536 })?;
+    says(&rt, alloc, 65_535, b"", true, Asking::Gone)?;
+    says(
+        &rt,
+        alloc,
+        65_532,
+        b"WANT",
+        false,
+        Asking::Long { n: 65_533 },
+    )
+}
