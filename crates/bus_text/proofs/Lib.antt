@@ -1,0 +1,5 @@
+pub mod TextLaws
+pub mod LineLaws
+pub mod BufferLaws
+pub mod ReadLaws
+pub mod BusLaws

@@ -1,0 +1,27 @@
+use Rattle.std.proofs.Common.{◌≡◌, sym, ap, subst}
+use Rattle.port_io.specs.OtherSide.{SourceState}
+use Rattle.candump_log.specs.LinesState.{LinesState, told}
+use Rattle.bus_text.specs.Buffering.{output}
+use Rattle.bus_text.specs.Printing.{PrintsBus}
+use Rattle.bus_text.proofs.BusLaws.{nothing_read, settled, whole_on_ok}
+use Rattle.bus_text.proofs.printing.print_bus.Goals as goal
+
+pub returns-in-Err-clause-prints : goal.returns-in-Err-clause-prints
+returns-in-Err-clause-prints g c =
+    rw c.in-Err.ensures.refused (settled (nothing_read c.args.wants.now c.args.bench.now c.args.bus _ _) c.settle.ensures.kept c.settle.ensures.answer)
+
+pub returns-clause-prints : goal.returns-clause-prints
+returns-clause-prints g c =
+    let log = told (g.S.Source.left c.args.log) (g.S.Source.taken c.args.log) (g.S.Source.read_faults c.args.log) (g.S.Source.ended c.args.log) in
+    let before = output (g.K.Sink.written c.args.out.now) (g.K.Sink.write_faults c.args.out.now) c.args.buffer.now in
+    let now = output (g.K.Sink.written c.settle-end.new.out) (g.K.Sink.write_faults c.settle-end.new.out) c.settle-end.new.buffer in
+    let made : c.in-Ok.lines.source ≡ log = ap (λ (l : LinesState). l.source) c.in-Ok.ensures.lines in
+    let P : SourceState → Type 0 = λ s. PrintsBus c.args.wants.now c.args.bench.now c.args.bus s c.print_lines-end.new.lines.source before now c.settle-end.result in
+    let Q : SourceState → Type 0 = λ s. PrintsBus c.args.wants.now c.args.bench.now c.args.bus log s before now c.settle-end.result in
+    subst Q (sym c.into_source.ensures.source) (subst P made (settled c.print_lines-end.ensures.prints c.settle-end.ensures.kept c.settle-end.ensures.answer))
+
+pub returns-in-Err-clause-ok : goal.returns-in-Err-clause-ok
+returns-in-Err-clause-ok g c = whole_on_ok c.settle.result (returns-in-Err-clause-prints g c)
+
+pub returns-clause-ok : goal.returns-clause-ok
+returns-clause-ok g c = whole_on_ok c.settle-end.result (returns-clause-prints g c)

@@ -1,0 +1,25 @@
+//! The text of a bus, printed as its log is read.
+//!
+//! `candump_log` gives the lines of a log, `decoded_list` the records of each and `subscriber_text` their text;
+//! here they are one stream: a log of any length is decoded and printed through one buffer, in memory that does
+//! not grow with it. The tool's `decode` is to print its buses by it, one after another. No crate uses it yet.
+//!
+//! Main theorem: on Ok `print_bus` has given exactly the text of all lines of the log's bytes, its start, its records
+//! and its end, to the buffer and the sink behind it; where the log fails or is too long just the text as far as the
+//! whole lines of the bytes taken go, written before the fault is answered; else a prefix of the whole text.
+#![tactic(auto)]
+
+mod buffer;
+mod bus;
+mod laws;
+mod printing;
+mod refused;
+
+pub use buffer::TextBuffer;
+pub use bus::BusPlace;
+pub use laws::the_text_goes_on;
+pub use printing::{Printed, print_bus};
+pub use refused::BusRefused;
+
+#[cfg(test)]
+mod tests;

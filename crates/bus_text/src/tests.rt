@@ -1,0 +1,294 @@
+//! What no clause says: that calls succeed with ample memory, and that the worked logs have their texts, read and
+//! written in pieces of any size, and as far as reads and writes succeed.
+ghost use Rattle.std.specs.Prelude.{◌≡◌, ◌≤◌, length, All, IfOk};
+ghost use Rattle.bench_model.specs.Limits.{IsMade};
+ghost use Rattle.bench_model.specs.Check.{IsValid};
+
+mod cases;
+
+use crate::*;
+use bench_model::*;
+use cases::*;
+use exact_scale::Decimal;
+use multiplex_tree::{List, Mark, resolve};
+use port_io::{MemSink, MemSource};
+use std::alloc::Global;
+use std::process::Abort;
+use std::test::Fail;
+use subscriber_text::Wants;
+
+/// How a log is read and its text written: how many bytes at a time, and which calls fail.
+#[derive(Clone, Copy)]
+struct Pieces {
+    read: usize,
+    failing_reads: &'static [u64],
+    write: usize,
+    failing_writes: &'static [u64],
+}
+
+const WHOLE: Pieces = Pieces {
+    read: 65_536,
+    failing_reads: &[],
+    write: 1_000_000,
+    failing_writes: &[],
+};
+
+/// The message with identifier 256, of one signal that counts by twos.
+fn engine(alloc: Global) -> Result<Message, Fail>
+    ensures { IfOk result IsMade }
+{
+    let signal = Signal {
+        name: Text::of(alloc, b"Speed")?,
+        start: 0,
+        size: 16,
+        order: Order::Intel,
+        signed: false,
+        float: false,
+        coding: Coding::Scaled {
+            scale: Scale::new(Decimal::read(b"2")?, Decimal::read(b"0")?)?,
+            unit: Text::of(alloc, b"rpm")?,
+            labels: List::of(Vec::new(alloc)),
+        },
+    };
+    let mark = Mark {
+        multiplexor: false,
+        group: None,
+    };
+    let tree = resolve(alloc, &[mark], &[])?;
+    Ok(Message {
+        name: Text::of(alloc, b"Engine")?,
+        key: Key {
+            extended: false,
+            id: 256,
+        },
+        length: 8,
+        signals: List::of(vec![in alloc; signal]?),
+        tree,
+    })
+}
+
+/// That message, or none.
+fn messages_of(alloc: Global, described: bool) -> Result<Vec<Message>, Fail>
+    ensures { IfOk result (λ messages. All IsMade messages.items) }
+{
+    let mut messages = Vec::new(alloc);
+    if described {
+        messages.push(engine(alloc)?)?;
+    }
+    Ok(messages)
+}
+
+/// A bench of one bus, whose database has that message or none.
+fn bench_of(alloc: Global, case: &Case) -> Result<Bench, Fail>
+    ensures bus { IfOk result (λ bench. length bench.buses ≡ 1) }
+    ensures valid { IfOk result (λ bench. All (λ b. IsValid b.database) bench.buses) }
+{
+    let messages = List::of(messages_of(alloc, case.described)?);
+    let valid = check(alloc, Database { messages })?;
+    let bus = Bus {
+        name: Text::of(alloc, case.bus)?,
+        kind: case.kind,
+        database: valid.into_database(),
+    };
+    Ok(Bench {
+        buses: List::of(vec![in alloc; bus]?),
+    })
+}
+
+/// What was written of the text of a log, which starts anew in an empty buffer, and how that ended.
+fn print_log(
+    alloc: Global,
+    case: &Case,
+    log: &[u8],
+    pieces: Pieces,
+    room: usize,
+) -> Result<(MemSink, Result<(), BusRefused>), Fail>
+    requires read { 1 ≤ pieces.read }
+    requires write { 1 ≤ pieces.write }
+{
+    let bench = bench_of(alloc, case)?;
+    let names = vec![in alloc; Text::of(alloc, case.bus)?]?;
+    let wants = Wants::all(alloc, &names)?;
+    let bus = BusPlace {
+        place: 0,
+        kind: case.kind,
+    };
+    let log = MemSource::new(
+        Vec::from_slice(alloc, log)?,
+        pieces.read,
+        Vec::from_slice(alloc, pieces.failing_reads)?,
+    );
+    let mut sink = MemSink::new(
+        vec![in alloc; 0; room]?,
+        pieces.write,
+        Vec::from_slice(alloc, pieces.failing_writes)?,
+    );
+    let mut buffer = TextBuffer::new(alloc)?;
+    let printed = print_bus(alloc, &bench, bus, &wants, log, &mut buffer, &mut sink);
+    let end = match printed.end {
+        Ok(()) => match buffer.flush(&mut sink) {
+            Ok(()) => Ok(()),
+            Err(_) => Err(BusRefused::WriteFault),
+        },
+        Err(refused) => Err(refused),
+    };
+    Ok((sink, end))
+}
+
+/// The log of a case has its text, read and written in these pieces.
+fn assert_text(
+    rt: &impl Abort,
+    alloc: Global,
+    case: &Case,
+    read: usize,
+    write: usize,
+) -> Result<(), Fail>
+    requires read { 1 ≤ read }
+    requires write { 1 ≤ write }
+{
+    let pieces = Pieces {
+        read,
+        write,
+        ..WHOLE
+    };
+    let (sink, end) = print_log(alloc, case, case.log.as_bytes(), pieces, 4_096)?;
+    assert_eq!(rt; end, Ok(()));
+    assert_eq!(rt; sink.bytes(), case.text.as_bytes());
+    Ok(())
+}
+
+#[test]
+fn a_log_of_frames_has_its_text(rt: HostRuntime) -> Result<(), Fail> {
+    assert_text(&rt, rt.alloc(), &FRAME, 65_536, 65_536)?;
+    assert_text(&rt, rt.alloc(), &FRAMES, 65_536, 65_536)
+}
+
+#[test]
+fn an_empty_log_has_an_end(rt: HostRuntime) -> Result<(), Fail> {
+    assert_text(&rt, rt.alloc(), &EMPTY, 65_536, 65_536)
+}
+
+#[test]
+fn each_kind_of_line_has_a_record(rt: HostRuntime) -> Result<(), Fail> {
+    assert_text(&rt, rt.alloc(), &KINDS, 65_536, 65_536)
+}
+
+#[test]
+fn messages_of_several_packets_have_records_of_their_own(rt: HostRuntime) -> Result<(), Fail> {
+    assert_text(&rt, rt.alloc(), &TO_ALL, 65_536, 65_536)?;
+    assert_text(&rt, rt.alloc(), &TWICE, 65_536, 65_536)?;
+    assert_text(&rt, rt.alloc(), &OUT_OF_ORDER, 65_536, 65_536)?;
+    assert_text(&rt, rt.alloc(), &IN_TIME, 65_536, 65_536)?;
+    assert_text(&rt, rt.alloc(), &LATE, 65_536, 65_536)
+}
+
+#[test]
+fn reads_and_writes_of_any_size_give_one_text(rt: HostRuntime) -> Result<(), Fail> {
+    for size in 1..64 {
+        assert_text(&rt, rt.alloc(), &FRAMES, size, 64 - size)?;
+        assert_text(&rt, rt.alloc(), &KINDS, size, size)?;
+    }
+    Ok(())
+}
+
+/// The first lines of a text.
+fn first_lines(text: &str, count: usize) -> &[u8] {
+    let bytes = text.as_bytes();
+    let mut left = count;
+    for (i, byte) in bytes.iter().enumerate() {
+        if left == 0 {
+            return &bytes[..i];
+        }
+        if *byte == b'\n' {
+            left -= 1;
+        }
+    }
+    bytes
+}
+
+/// Reads of a line each, of which this one fails: the text stops behind the records of the lines before.
+fn assert_stop(
+    rt: &impl Abort,
+    alloc: Global,
+    failing_reads: &'static [u64],
+    lines: usize,
+) -> Result<(), Fail> {
+    let pieces = Pieces {
+        read: 46,
+        failing_reads,
+        ..WHOLE
+    };
+    let (sink, end) = print_log(alloc, &FRAMES, FRAMES.log.as_bytes(), pieces, 4_096)?;
+    assert_eq!(rt; end, Err(BusRefused::ReadFault));
+    assert_eq!(rt; sink.bytes(), first_lines(FRAMES.text, lines));
+    Ok(())
+}
+
+#[test]
+fn a_failing_read_stops_the_text_behind_whole_lines(rt: HostRuntime) -> Result<(), Fail> {
+    assert_stop(&rt, rt.alloc(), &[0], 0)?;
+    assert_stop(&rt, rt.alloc(), &[1], 3)?;
+    assert_stop(&rt, rt.alloc(), &[2], 5)?;
+    assert_stop(&rt, rt.alloc(), &[3], 6)
+}
+
+/// How many empty lines make a text of several times what a buffer takes.
+const MANY: usize = 20_000;
+
+/// The text of that many empty lines, which are bad ones.
+fn text_of_bad_lines(alloc: Global) -> Result<String, Fail> {
+    let mut text = String::new(alloc);
+    text.push_str("start A 0\n")?;
+    for number in 0..MANY {
+        text.push_str(format!(in alloc; "x A {number} 0\n")?.as_str())?;
+    }
+    text.push_str(format!(in alloc; "end A {MANY}\n")?.as_str())?;
+    Ok(text)
+}
+
+/// A long log whose writes fail so ends so, and a prefix of its text was written, this much at least.
+fn assert_long(
+    rt: &impl Abort,
+    alloc: Global,
+    failing_writes: &'static [u64],
+    end: Result<(), BusRefused>,
+    least: usize,
+) -> Result<(), Fail> {
+    let text = text_of_bad_lines(alloc)?;
+    let log = vec![in alloc; b'\n'; MANY]?;
+    let pieces = Pieces {
+        failing_writes,
+        ..WHOLE
+    };
+    let (sink, ended) = print_log(alloc, &EMPTY, &log, pieces, 1_000_000)?;
+    assert_eq!(rt; ended, end);
+    assert!(rt; text.as_bytes().starts_with(sink.bytes()));
+    assert!(rt; sink.bytes().len() >= least);
+    Ok(())
+}
+
+#[test]
+fn a_text_longer_than_the_buffer_is_written_as_it_goes(rt: HostRuntime) -> Result<(), Fail> {
+    let length = text_of_bad_lines(rt.alloc())?.len();
+    assert_long(&rt, rt.alloc(), &[], Ok(()), length)
+}
+
+#[test]
+fn a_failing_write_leaves_a_prefix(rt: HostRuntime) -> Result<(), Fail> {
+    assert_long(&rt, rt.alloc(), &[0], Err(BusRefused::WriteFault), 0)?;
+    assert_long(&rt, rt.alloc(), &[1], Err(BusRefused::WriteFault), 65_536)?;
+    assert_long(&rt, rt.alloc(), &[2], Err(BusRefused::WriteFault), 131_072)
+}
+
+/// Such a value may go to a worker and come back from one.
+fn assert_crosses<T: Send + Drop>(_value: &T) {}
+
+#[test]
+fn values_cross_to_workers(rt: HostRuntime) -> Result<(), Fail> {
+    assert_crosses(&TextBuffer::new(rt.alloc())?);
+    assert_crosses(&Printed {
+        log: MemSource::new(Vec::new(rt.alloc()), 1, Vec::new(rt.alloc())),
+        end: Err(BusRefused::TooLong),
+    });
+    Ok(())
+}
