@@ -1,0 +1,16 @@
+pub mod PlaceLaws
+pub mod OneMoreLaws
+pub mod TileLaws
+pub mod GroupLaws
+pub mod ReadingLaws
+pub mod TurnLaws
+pub mod OneLaws
+pub mod SeatLaws
+pub mod WordLaws
+pub mod SlotLaws
+pub mod PutLaws
+pub mod NextLaws
+pub mod TakeLaws
+pub mod RingLaws
+pub mod OfferLaws
+pub mod TakingLaws

@@ -1,0 +1,100 @@
+-- The item that waits longest is of the ring's bus, and a record's number is above those of the records taken before.
+use Rattle.std.proofs.Common.{◌≡◌, ℕ, ◌+◌, ◌<◌, ◌≤◌, ◌==◌, ◌^◌, Bool, true, false, cond, List, [], ◌∷◌, ◌++◌, map, length, flat_map, All, AllPairs}
+use Rattle.std.proofs.Common.{Option, Some, None, refl, sym, ap, ◌∙◌, subst, arith, ⊎_elim, append-nil, append_assoc}
+use Rattle.std.proofs.lemmas.Bool.{cases_Bool, cond-true, cond-false, cond_both}
+use Rattle.std.proofs.lemmas.List.Concat.{flat_map-append}
+use Rattle.std.proofs.lemmas.List.Elements.{All-nil, All-cons, All-head, All-tail, All-append, All-weaker}
+use Rattle.bench_model.specs.declared.reading.Missed.{Missed}
+use Rattle.bench_model.specs.declared.reading.Item.{Item}
+use Rattle.bench_model.specs.declared.reading.Item.TheVariants as item
+use Rattle.gap_ring.specs.declared.entries.Offered.{Offered}
+use Rattle.gap_ring.specs.declared.view.Putting.{Putting}
+use Rattle.gap_ring.specs.declared.view.Taking.{Taking}
+use Rattle.gap_ring.specs.Offers.{is_put, turn_of, trailing, gap_of, gap_item, lead, put_by, put_after, put_of, IsOffered, AreOffersAfter, AreOffers}
+use Rattle.gap_ring.specs.Tiles.{number_read, numbers_read}
+use Rattle.gap_ring.specs.Turns.{items_taken}
+use Rattle.gap_ring.specs.Rule.{IsLead, PutRule, most_offers}
+use Rattle.gap_ring.specs.Steps.{IsOfBus, IsNext, record_number}
+use Rattle.gap_ring.proofs.PlaceLaws.{all_left, all_right, all_pairs_left}
+use Rattle.gap_ring.proofs.ReadingLaws.{records_rise}
+
+gap_of_bus : (bus b : ℕ) (gap : Option Missed) → b ≡ bus → All (IsOfBus bus) (gap_item b gap)
+gap_of_bus bus b None is = All-nil (IsOfBus bus)
+gap_of_bus bus b (Some m) is = All-cons (IsOfBus bus) (item.Gap b m) [] is (All-nil (IsOfBus bus))
+
+put_by_of_bus : (bus : ℕ) (before : List Offered) (o : Offered) → o.reading.bus ≡ bus → All (IsOfBus bus) (put_by before o)
+put_by_of_bus bus before o is =
+    let P : Item → Type 0 = IsOfBus bus in
+    let gap : List Item = gap_item o.reading.bus (gap_of (trailing before)) in
+    let start : List Item = item.Start o.reading.bus o.reading.number o.attach ∷ [] in
+    let led : All P (lead before o.reading o.attach) = cond_both (o.attach == turn_of before) gap start (All P)
+    (λ _. gap_of_bus bus o.reading.bus (gap_of (trailing before)) is)
+    (λ _. All-cons P (item.Start o.reading.bus o.reading.number o.attach) [] is (All-nil P)) in
+    let one : All P (item.Reading o.reading ∷ []) = All-cons P (item.Reading o.reading) [] is (All-nil P) in
+    cond_both (is_put o) (lead before o.reading o.attach ++ item.Reading o.reading ∷ []) [] (All P)
+    (λ _. All-append P (lead before o.reading o.attach) (item.Reading o.reading ∷ []) led one)
+    (λ _. All-nil P)
+
+put_of_bus : (bus capacity : ℕ) (before os : List Offered) → AreOffersAfter bus capacity before os → All (IsOfBus bus) (put_after before os)
+put_of_bus bus capacity before [] h = All-nil (IsOfBus bus)
+put_of_bus bus capacity before (o ∷ os) h =
+    All-append (IsOfBus bus) (put_by before o) (put_after (before ++ o ∷ []) os) (put_by_of_bus bus before o h.0.bus_is) (put_of_bus bus capacity (before ++ o ∷ []) os h.1)
+
+lead_of_bus : (bus : ℕ) (x : Item) → IsLead bus x → IsOfBus bus x
+lead_of_bus bus (item.Start b number turn) h = h
+lead_of_bus bus (item.Reading r) h = absurd h
+lead_of_bus bus (item.Gap b m) h = h
+lead_of_bus bus (item.End b number) h = h
+
+lead_reads : (bus : ℕ) (xs : List Item) → All (IsLead bus) xs → numbers_read xs ≡ []
+lead_reads bus [] h = refl
+lead_reads bus (item.Start b number turn ∷ xs) h = lead_reads bus xs (All-tail (IsLead bus) (item.Start b number turn) xs h)
+lead_reads bus (item.Reading r ∷ xs) h = absurd (All-head (IsLead bus) (item.Reading r) xs h)
+lead_reads bus (item.Gap b m ∷ xs) h = lead_reads bus xs (All-tail (IsLead bus) (item.Gap b m) xs h)
+lead_reads bus (item.End b number ∷ xs) h = lead_reads bus xs (All-tail (IsLead bus) (item.End b number) xs h)
+
+number_low : (x : Item) → All (λ n. n < most_offers) (numbers_read (x ∷ [])) → record_number x < most_offers
+number_low (item.Start bus number turn) h = omega arith
+number_low (item.Reading r) h = All-head (λ n. n < most_offers) r.number [] h
+number_low (item.Gap bus m) h = omega arith
+number_low (item.End bus number) h = omega arith
+
+module _ (bus capacity : ℕ) (p : Putting) (h : PutRule bus capacity p) where
+  all_of_bus : All (IsOfBus bus) p.put
+  all_of_bus =
+      subst (All (IsOfBus bus)) (sym h.put_is)
+      (All-append (IsOfBus bus) (put_of p.offers) p.lead (put_of_bus bus capacity [] p.offers h.offered)
+      (All-weaker (IsLead bus) (IsOfBus bus) (lead_of_bus bus) p.lead h.lead_is))
+
+  read_is : numbers_read p.put ≡ numbers_read (put_of p.offers)
+  read_is =
+      ap numbers_read h.put_is
+      ∙ (flat_map-append number_read (put_of p.offers) p.lead
+      ∙ (ap (λ ns. numbers_read (put_of p.offers) ++ ns) (lead_reads bus p.lead h.lead_is)
+      ∙ append-nil (numbers_read (put_of p.offers))))
+
+  all_rise : AllPairs (λ a b. a < b) (numbers_read p.put) × All (λ n. n < most_offers) (numbers_read p.put)
+  all_rise =
+      let both = records_rise bus capacity p.offers h.offered in
+      let few = h.few in
+      subst (λ ns. AllPairs (λ a b. a < b) ns × All (λ n. n < most_offers) ns) (sym read_is)
+      (both.0, All-weaker (λ n. n < length p.offers) (λ n. n < most_offers) (λ n below. omega arith) (numbers_read (put_of p.offers)) both.1)
+
+  -- the next item
+  pub next_is : (t : Taking) (x : Item) (more : List Item) → t.bus ≡ bus → p.put ≡ items_taken t.taken ++ x ∷ more → IsNext t x
+  next_is t x more of_it split =
+      let old : List Item = items_taken t.taken in
+      let parts : numbers_read p.put ≡ numbers_read (old ++ x ∷ []) ++ numbers_read more =
+      ap numbers_read (split ∙ sym (append_assoc old (x ∷ []) more)) ∙ flat_map-append number_read (old ++ x ∷ []) more in
+      let inner : numbers_read (old ++ x ∷ []) ≡ numbers_read old ++ numbers_read (x ∷ []) = flat_map-append number_read old (x ∷ []) in
+      let rise = subst (AllPairs (λ a b. a < b)) parts all_rise.0 in
+      let low = subst (All (λ n. n < most_offers)) parts all_rise.1 in
+      let bounded : All (λ n. n < most_offers) (numbers_read (x ∷ [])) =
+      all_right (λ n. n < most_offers) (numbers_read old) (numbers_read (x ∷ []))
+      (subst (All (λ n. n < most_offers)) inner (all_left (λ n. n < most_offers) (numbers_read (old ++ x ∷ [])) (numbers_read more) low)) in
+      record {
+        of_bus = subst (λ b. IsOfBus b x) (sym of_it) (All-head (IsOfBus bus) x more (all_right (IsOfBus bus) old (x ∷ more) (subst (All (IsOfBus bus)) split all_of_bus)));
+        rises = all_pairs_left (λ a b. a < b) (numbers_read (old ++ x ∷ [])) (numbers_read more) rise;
+        bounded = bounded;
+        low = number_low x bounded;
+      }

@@ -1,0 +1,9 @@
+use Rattle.std.proofs.Common.{◌<◌, arith}
+use Rattle.gap_ring.proofs.TakeLaws.{turns}
+use Rattle.gap_ring.proofs.steps.store_attach.Goals as goal
+
+pub store-requires : goal.store-requires
+store-requires c =
+    let seat = c.args.seat.now in
+    let ring = c.args.ring.now.shared in
+    (c.requires.on.0, omega (arith, c.requires.on.1), turns ring.key ring.table_id.slots seat.id c.args.value seat.me c.requires.may)

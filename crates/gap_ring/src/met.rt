@@ -1,0 +1,55 @@
+//! What both ends know once they meet.
+ghost use Rattle.std.specs.Prelude.{◌≡◌, length};
+ghost use Rattle.std.specs.Arc.{arc_value};
+ghost use Rattle.gap_ring.specs.Offers.{put_of};
+ghost use Rattle.gap_ring.specs.Steps.{HaveMet};
+ghost use Rattle.gap_ring.specs.PutterView.{ring_of, slots_of, view_of};
+ghost use Rattle.gap_ring.specs.TakerView.{taking_of};
+ghost use Rattle.gap_ring.specs.MetView.{putting_of_met, taking_of_met};
+
+use crate::putter::Putter;
+use crate::steps::join_ends;
+use crate::taker::Taker;
+use crate::view::Place;
+
+/// The two ends of a ring, put together. Contracts see what was offered, put and taken.
+#[derive(Drop)]
+pub struct Met {
+    pub capacity: u64,
+    /// How many items were put.
+    pub put: u64,
+    /// How many of them were taken.
+    pub taken: u64,
+    pub(crate) seat: Place,
+}
+
+/// Puts the two ends of a ring together.
+pub fn meet(putter: Putter, taker: Taker) -> Met
+    requires one { (arc_value taker.ring).shared.table_id ≡ ring_of putter }
+    ensures ends { (putting_of_met result ≡ (view_of putter).putting) × (taking_of_met result ≡ taking_of taker) }
+    ensures sized { result.capacity ≡ slots_of putter }
+    ensures counts { (result.put ≡ length (putting_of_met result).put) × (result.taken ≡ length (taking_of_met result).taken) }
+    ensures put { (putting_of_met result).put ≡ put_of (putting_of_met result).offers }
+    ensures met { HaveMet (slots_of putter) (putting_of_met result) (taking_of_met result) }
+{
+    let Putter {
+        ring,
+        mut seat,
+        capacity,
+        count,
+    } = putter;
+    let Taker {
+        ring: other,
+        seat: taker_seat,
+        capacity: _,
+        progress,
+    } = taker;
+    drop(other);
+    join_ends(&ring, &mut seat, taker_seat);
+    Met {
+        capacity,
+        put: count.tail,
+        taken: progress.head,
+        seat,
+    }
+}

@@ -1,0 +1,48 @@
+//! A ring and its two ends.
+ghost use Rattle.std.specs.Prelude.{◌≡◌, ◌≤◌, [], ◌∷◌, IfOk, replicate, slice_set};
+ghost use Rattle.std.specs.Arc.{arc_value};
+ghost use Rattle.gap_ring.specs.Rule.{first_putting, first_taking};
+
+use crate::count::Count;
+use crate::plays::Roles;
+use crate::progress::Progress;
+use crate::putter::Putter;
+use crate::steps::{ATTACH, WORDS};
+use crate::taker::Taker;
+use crate::view::{Place, Ring};
+use atomic_table::Table;
+use std::alloc::{AllocError, Global};
+use std::sync::Arc;
+
+/// A ring of a bus with this many slots, and its two ends. The taker is attached, for its first turn, which is 1.
+pub fn ring(alloc: Global, bus: u32, capacity: usize) -> Result<(Putter, Taker), AllocError>
+    requires { (2 ≤ capacity) × (capacity ≤ 16384) }
+    ensures one { IfOk result (λ r. r.1.seat.table_id ≡ r.0.seat.table_id) }
+    ensures sized { IfOk result (λ r. (r.0.capacity ≡ capacity) × (r.1.capacity ≡ capacity)) }
+    ensures bus { IfOk result (λ r. ((arc_value r.0.ring).shared.key ≡ bus) × ((arc_value r.1.ring).shared.key ≡ bus)) }
+    ensures nothing { IfOk result (λ r. (r.0.seat.me.0.putting ≡ first_putting) × (r.1.seat.me.0.taking ≡ first_taking bus)) }
+{
+    let mut words = [0; WORDS];
+    words[ATTACH] = 1;
+    let (table, mut seat): (Ring, Place) = Table::vacant(alloc, &words, capacity, &bus)?;
+    let other = table.shared.split_seat::<Roles>(&mut seat);
+    let table = Arc::new(alloc, table)?;
+    let putter = Putter {
+        ring: table.clone()?,
+        seat,
+        capacity: capacity as u64,
+        count: Count::new(),
+    };
+    let taker = Taker {
+        ring: table,
+        seat: other,
+        capacity: capacity as u64,
+        progress: Progress {
+            head: 0,
+            attach: 1,
+            started: false,
+            next: 0,
+        },
+    };
+    Ok((putter, taker))
+}
