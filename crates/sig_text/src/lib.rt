@@ -1,8 +1,8 @@
 //! The tokens of DBC and LDF text, and the content of their strings.
 //!
 //! A text is words, numbers, strings and signs, with white space between them and, where the format has them,
-//! comments. No crate uses this one yet; the readers of whole DBC and LDF text are to read the list that `tokens`
-//! gives, and to take the content of a string from `string_of`. It stands on std and `thiserror`.
+//! comments. The readers of whole DBC and LDF text read the list that `tokens` gives, over `token_forms`. It stands on
+//! std and `thiserror`.
 //!
 //! The theorem: `tokens` answers the list of longest tokens that the text is made of, or the first place at which
 //! there is none, exactly where the text has the one or the other, unless memory runs out; each text has one such
