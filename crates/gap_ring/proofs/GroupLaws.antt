@@ -1,11 +1,11 @@
 -- What was put is made of groups: one more offer leaves the groups as they are, adds to the last one or begins one.
-use Rattle.std.proofs.Common.{◌≡◌, ◌≢◌, ◌⊎◌, ℕ, zero, suc, ◌+◌, ◌-◌, ◌%◌, ◌<◌, ◌≤◌, ◌==◌, Bool, true, false, cond, List, [], ◌∷◌, ◌++◌}
-use Rattle.std.proofs.Common.{length, get_or, map, slice_get, flat_map, filter, All, AllPairs, Some, None, refl, sym, ap, ◌∙◌, subst}
+use Rattle.std.proofs.Common.{◌≡◌, ◌≢◌, ◌⊎◌, ℕ, ◌+◌, ◌-◌, ◌%◌, ◌<◌, ◌≤◌, ◌==◌, true, false, List, [], ◌∷◌, ◌++◌}
+use Rattle.std.proofs.Common.{length, get_or, slice_get, flat_map, All, AllPairs, Some, refl, sym, ap, ◌∙◌, subst}
 use Rattle.std.proofs.Common.{arith, option_map, length-append, append-nil, append_assoc, inl, inr, ⊎_elim, eq-eqb, ne_eqb}
 use Rattle.std.specs.List.{range_with_len}
 use Rattle.std.proofs.lemmas.Bool.{cases_eq, and_from, cond-true, cond-false}
 use Rattle.std.proofs.lemmas.Option.{none-some, slice_get-get_or, slice_get-map}
-use Rattle.std.proofs.lemmas.List.{map-append, get_or-append-add}
+use Rattle.std.proofs.lemmas.List.{map-append}
 use Rattle.std.proofs.lemmas.List.Sums.{fold_push}
 use Rattle.std.proofs.lemmas.List.Concat.{flat_map-append}
 use Rattle.std.proofs.lemmas.List.Elements.{All-nil, All-cons, All-push, All-append, All-weaker}
@@ -18,9 +18,9 @@ use Rattle.gap_ring.specs.declared.entries.Outcome.{Outcome}
 use Rattle.gap_ring.specs.declared.entries.Outcome.TheVariants as outcome
 use Rattle.gap_ring.specs.declared.entries.Offered.{Offered}
 use Rattle.gap_ring.specs.Offers.{IsAttached, IsDetached, puts, refuses, is_put, turn_of, since_put, is_missed_in, trailing}
-use Rattle.gap_ring.specs.Offers.{missed, last_of, gap_of, gap_item, lead, put_by, put_of, Ends, IsOffered, AreOffersAfter, AreOffers, readings_of}
-use Rattle.gap_ring.specs.Tiles.{Tiles, IsFrom, IsGapOf, numbers_missed}
-use Rattle.gap_ring.specs.Groups.{Group, group_items, Ended, IsOfTurn, IsGroup, AreGroups}
+use Rattle.gap_ring.specs.Offers.{missed, last_of, gap_of, gap_item, lead, put_of, Ends, IsOffered, AreOffersAfter, AreOffers, readings_of}
+use Rattle.gap_ring.specs.Tiles.{Tiles, IsGapOf, numbers_missed}
+use Rattle.gap_ring.specs.Groups.{Group, group_items, OfferWas, IsOfTurn, IsGroup, AreGroups}
 use Rattle.gap_ring.specs.Turns.{next_of, next_after}
 use Rattle.gap_ring.proofs.PlaceLaws.{get_longer, get_last, get_right, get_snoc, all_right, filter_all, all_range}
 use Rattle.gap_ring.proofs.OneMoreLaws.{turn-snoc, since-snoc, put-snoc, turn_bounded}
@@ -122,14 +122,14 @@ trailing_all os h =
     and_from (refuses p.outcome) (p.attach == turn_of os) (ap refuses m.1) (eq-eqb p.attach (turn_of os) m.0))
 
 -- what is so of some offers is so of more
-pub ended_longer : (how : Outcome) (os more : List Offered) (turn n : ℕ) → Ended how os turn n → Ended how (os ++ more) turn n
+pub ended_longer : (how : Outcome) (os more : List Offered) (turn n : ℕ) → OfferWas how os turn n → OfferWas how (os ++ more) turn n
 ended_longer how os more turn n h = (h.0, get_longer os more n h.0 h.1, h.2, h.3)
 
 of_turn_longer : (os more : List Offered) (turn : ℕ) (x : Item) → IsOfTurn os turn x → IsOfTurn (os ++ more) turn x
 of_turn_longer os more turn (item.Start bus number t) h = absurd h
 of_turn_longer os more turn (item.Reading r) h = ended_longer outcome.Put os more turn r.number h
 of_turn_longer os more turn (item.Gap bus m) h =
-    All-weaker (Ended outcome.Refused os turn) (Ended outcome.Refused (os ++ more) turn) (ended_longer outcome.Refused os more turn) (numbers_missed m) h
+    All-weaker (OfferWas outcome.Refused os turn) (OfferWas outcome.Refused (os ++ more) turn) (ended_longer outcome.Refused os more turn) (numbers_missed m) h
 of_turn_longer os more turn (item.End bus number) h = absurd h
 
 all_of_turn_longer : (os more : List Offered) (turn : ℕ) (xs : List Item) → All (IsOfTurn os turn) xs → All (IsOfTurn (os ++ more) turn) xs
@@ -192,12 +192,12 @@ gap_is os p ps next f is place =
     )
 
 gap_refused : (os : List Offered) (p : Offered) (ps : List Offered) (next turn : ℕ) → (f : Follows os) → since_put os ≡ p ∷ ps → next + length (p ∷ ps) ≡ length os
-    → All (IsMissed turn) (since_put os) → All (Ended outcome.Refused os turn) (numbers_missed (gap_from p ps))
+    → All (IsMissed turn) (since_put os) → All (OfferWas outcome.Refused os turn) (numbers_missed (gap_from p ps))
 gap_refused os p ps next turn f is place missing =
     let these : All (IsMissed turn) (p ∷ ps) = subst (All (IsMissed turn)) is missing in
     let number : p.reading.number ≡ next = (gap_is os p ps next f is place).0 in
-    subst (λ n. All (Ended outcome.Refused os turn) (range_with_len n (length (p ∷ ps)))) (sym number)
-    (all_range (Ended outcome.Refused os turn) next (length (p ∷ ps))
+    subst (λ n. All (OfferWas outcome.Refused os turn) (range_with_len n (length (p ∷ ps)))) (sym number)
+    (all_range (OfferWas outcome.Refused os turn) next (length (p ∷ ps))
     (λ k below. let m = these k p below in (get_or (p ∷ ps) k p, since_at os (p ∷ ps) next k p f is place below, m.0, m.1)))
 
 -- what goes before the next record of this turn tiles what follows the last put
@@ -229,7 +229,7 @@ new_tile : (os : List Offered) (o : Offered) → o.reading.number ≡ length os
     → Tiles (item.Reading o.reading ∷ []) (readings_of (os ++ o ∷ [])) (length os) (length os + 1)
 new_tile os o is = tiles_reading (readings_of (os ++ o ∷ [])) o.reading (length os) is (reading_at (os ++ o ∷ []) (length os) o (get_last os o (length os) refl))
 
-new_ended : (os : List Offered) (o : Offered) → o.reading.number ≡ length os → o.outcome ≡ outcome.Put → Ended outcome.Put (os ++ o ∷ []) o.attach o.reading.number
+new_ended : (os : List Offered) (o : Offered) → o.reading.number ≡ length os → o.outcome ≡ outcome.Put → OfferWas outcome.Put (os ++ o ∷ []) o.attach o.reading.number
 new_ended os o is put = (o, get_last os o o.reading.number (sym is), refl, put)
 
 new_of_turn : (os : List Offered) (o : Offered) → o.reading.number ≡ length os → o.outcome ≡ outcome.Put → All (IsOfTurn (os ++ o ∷ []) o.attach) (item.Reading o.reading ∷ [])

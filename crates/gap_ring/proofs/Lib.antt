@@ -9,8 +9,11 @@ pub mod SeatLaws
 pub mod WordLaws
 pub mod SlotLaws
 pub mod PutLaws
+pub mod StoreLaws
 pub mod NextLaws
 pub mod TakeLaws
 pub mod RingLaws
 pub mod OfferLaws
 pub mod TakingLaws
+pub mod PrefixLaws
+pub mod CountLaws

@@ -1,7 +1,7 @@
 -- The item that waits longest is of the ring's bus, and a record's number is above those of the records taken before.
-use Rattle.std.proofs.Common.{◌≡◌, ℕ, ◌+◌, ◌<◌, ◌≤◌, ◌==◌, ◌^◌, Bool, true, false, cond, List, [], ◌∷◌, ◌++◌, map, length, flat_map, All, AllPairs}
-use Rattle.std.proofs.Common.{Option, Some, None, refl, sym, ap, ◌∙◌, subst, arith, ⊎_elim, append-nil, append_assoc}
-use Rattle.std.proofs.lemmas.Bool.{cases_Bool, cond-true, cond-false, cond_both}
+use Rattle.std.proofs.Common.{◌≡◌, ℕ, ◌<◌, ◌==◌, List, [], ◌∷◌, ◌++◌, length, All, AllPairs}
+use Rattle.std.proofs.Common.{Option, Some, None, refl, sym, ap, ◌∙◌, subst, arith, append-nil, append_assoc}
+use Rattle.std.proofs.lemmas.Bool.{cond_both}
 use Rattle.std.proofs.lemmas.List.Concat.{flat_map-append}
 use Rattle.std.proofs.lemmas.List.Elements.{All-nil, All-cons, All-head, All-tail, All-append, All-weaker}
 use Rattle.bench_model.specs.declared.reading.Missed.{Missed}
@@ -10,7 +10,7 @@ use Rattle.bench_model.specs.declared.reading.Item.TheVariants as item
 use Rattle.gap_ring.specs.declared.entries.Offered.{Offered}
 use Rattle.gap_ring.specs.declared.view.Putting.{Putting}
 use Rattle.gap_ring.specs.declared.view.Taking.{Taking}
-use Rattle.gap_ring.specs.Offers.{is_put, turn_of, trailing, gap_of, gap_item, lead, put_by, put_after, put_of, IsOffered, AreOffersAfter, AreOffers}
+use Rattle.gap_ring.specs.Offers.{is_put, turn_of, trailing, gap_of, gap_item, lead, put_by, put_after, put_of, AreOffersAfter}
 use Rattle.gap_ring.specs.Tiles.{number_read, numbers_read}
 use Rattle.gap_ring.specs.Turns.{items_taken}
 use Rattle.gap_ring.specs.Rule.{IsLead, PutRule, most_offers}

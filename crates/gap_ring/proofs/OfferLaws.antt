@@ -1,7 +1,7 @@
 -- What an offer leaves, by how it ended.
-use Rattle.std.proofs.Common.{◌≡◌, ◌≢◌, ◌⊎◌, ℕ, zero, suc, ◌+◌, ◌-◌, ◌*◌, ◌%◌, ◌<◌, ◌≤◌, ◌==◌, ◌&&◌, nat_lt, Bool, true, false, cond, List, [], ◌∷◌, ◌++◌, length}
-use Rattle.std.proofs.Common.{get_or, filter, All, Option, Some, None, refl, sym, ap, ◌∙◌, subst, arith, inl, inr, ⊎_elim, length-append, append-nil, append_assoc}
-use Rattle.std.proofs.Common.{ltb-true, ltb-false, eq-eqb, ne_eqb, le-ltb, lt-ltb, option_to_list}
+use Rattle.std.proofs.Common.{◌≡◌, ◌≢◌, ℕ, ◌+◌, ◌-◌, ◌%◌, ◌<◌, ◌≤◌, ◌==◌, ◌&&◌, Bool, true, false, cond, List, [], ◌∷◌, ◌++◌, length}
+use Rattle.std.proofs.Common.{filter, All, Option, Some, None, refl, sym, ap, ◌∙◌, subst, arith, inl, inr, ⊎_elim, length-append, append-nil, append_assoc}
+use Rattle.std.proofs.Common.{eq-eqb, ne_eqb, le-ltb, lt-ltb, option_to_list}
 use Rattle.std.proofs.lemmas.Nat.{mod_below}
 use Rattle.std.proofs.lemmas.Bool.{cases_Bool, cases_eq, cond-true, cond-false, cond_both}
 use Rattle.std.proofs.lemmas.List.{get_or_push}
@@ -10,7 +10,6 @@ use Rattle.bench_model.specs.declared.reading.Reading.{Reading}
 use Rattle.bench_model.specs.declared.reading.Missed.{Missed}
 use Rattle.bench_model.specs.declared.reading.Item.{Item}
 use Rattle.bench_model.specs.declared.reading.Item.TheVariants as item
-use Rattle.gap_ring.specs.declared.answers.Offer.{Offer}
 use Rattle.gap_ring.specs.declared.answers.Offer.TheVariants as offer
 use Rattle.gap_ring.specs.declared.count.Count.{Count}
 use Rattle.gap_ring.specs.declared.entries.Outcome.{Outcome}
@@ -21,8 +20,8 @@ use Rattle.gap_ring.specs.declared.view.Did.TheVariants as did
 use Rattle.gap_ring.specs.declared.view.Putting.{Putting}
 use Rattle.gap_ring.specs.declared.view.View.{View}
 use Rattle.gap_ring.specs.Offers.{IsAttached, IsDetached, IsHeadOf, Ends, IsOffered, puts, refuses, is_put, turn_of, since_put, is_missed_in, trailing}
-use Rattle.gap_ring.specs.Offers.{missed, longer, missed_count, last_of, gap_of, gap_item, slots_needed, slots_free, lead, put_by, put_of}
-use Rattle.gap_ring.specs.Rule.{head_word, tail_word, attach_word, most_offers, IsLead}
+use Rattle.gap_ring.specs.Offers.{missed, longer, missed_count, last_of, gap_of, gap_item, slots_needed, slots_free, lead, put_of}
+use Rattle.gap_ring.specs.Rule.{head_word, tail_word, attach_word, IsLead}
 use Rattle.gap_ring.specs.Steps.{entry_of, did_put, with_attach, with_offer, with_slot, with_head, is_short, slot_taken, attach_seen, head_seen, lead_put, record_put}
 use Rattle.gap_ring.specs.May.{MayOffer, MayItems, MayLead, MayReach, MayRecord}
 use Rattle.gap_ring.specs.Turns.{IsStartBy}
@@ -35,7 +34,7 @@ use Rattle.gap_ring.proofs.OneMoreLaws.{turn-snoc, since-snoc, put-snoc}
 pub trailing_put : (os : List Offered) (o : Offered) → is_put o ≡ true → trailing (os ++ o ∷ []) ≡ []
 trailing_put os o put = ap (filter (is_missed_in (turn_of (os ++ o ∷ [])))) (since-snoc os o ∙ cond-true (is_put o) [] (since_put os ++ o ∷ []) put)
 
-trailing_more : (os : List Offered) (o : Offered) → is_put o ≡ false → trailing (os ++ o ∷ []) ≡ trailing os ++ filter (is_missed_in (turn_of os)) (o ∷ [])
+pub trailing_more : (os : List Offered) (o : Offered) → is_put o ≡ false → trailing (os ++ o ∷ []) ≡ trailing os ++ filter (is_missed_in (turn_of os)) (o ∷ [])
 trailing_more os o unput =
     let turn : turn_of (os ++ o ∷ []) ≡ turn_of os = turn-snoc os o ∙ cond-false (is_put o) o.attach (turn_of os) unput in
     let since : since_put (os ++ o ∷ []) ≡ since_put os ++ o ∷ [] = since-snoc os o ∙ cond-false (is_put o) [] (since_put os ++ o ∷ []) unput in
@@ -49,7 +48,7 @@ trailing_away os o away =
     trailing_more os o (ap puts away) ∙ (ap (λ (l : List Offered). trailing os ++ l) none ∙ append-nil (trailing os))
 
 -- a gap of one record more
-gap_longer : (os : List Offered) (o : Offered) → gap_of (os ++ o ∷ []) ≡ Some (longer (gap_of os) o.reading)
+pub gap_longer : (os : List Offered) (o : Offered) → gap_of (os ++ o ∷ []) ≡ Some (longer (gap_of os) o.reading)
 gap_longer [] o = refl
 gap_longer (p ∷ ps) o =
     let count : length (p ∷ (ps ++ o ∷ [])) ≡ length (p ∷ ps) + 1 = omega (arith, length-append ps (o ∷ [])) in
@@ -71,11 +70,11 @@ trailing_refused os o refused =
     ∙ sym (cond-false (o.attach == turn_of os) (Some (longer (gap_of (trailing os)) o.reading)) (gap_of (trailing os)) e))
     (cases_Bool (o.attach == turn_of os))
 
-longer_counts : (gap : Option Missed) (r : Reading) → missed_count (Some (longer gap r)) ≡ missed_count gap + 1
+pub longer_counts : (gap : Option Missed) (r : Reading) → missed_count (Some (longer gap r)) ≡ missed_count gap + 1
 longer_counts None r = refl
 longer_counts (Some m) r = refl
 
-put_unput : (os : List Offered) (o : Offered) → is_put o ≡ false → put_of (os ++ o ∷ []) ≡ put_of os
+pub put_unput : (os : List Offered) (o : Offered) → is_put o ≡ false → put_of (os ++ o ∷ []) ≡ put_of os
 put_unput os o unput =
     put-snoc os o ∙ (ap (λ xs. put_of os ++ xs) (cond-false (is_put o) (lead os o.reading o.attach ++ item.Reading o.reading ∷ []) [] unput) ∙ append-nil (put_of os))
 
@@ -145,6 +144,7 @@ module _ (bus slots a : ℕ) (c : Count) (reading : Reading) (v : View) (rests :
           steps_are = refl;
           are_steps = refl;
           still_open = refl;
+          gap_same = refl;
         },
       )
 
@@ -193,6 +193,7 @@ module _ (bus slots a : ℕ) (c : Count) (reading : Reading) (v : View) (rests :
           steps_are = append_assoc p.steps (did.Loaded attach_word a ∷ []) (did.Loaded head_word h ∷ []);
           are_steps = (h, refl, refl);
           still_open = refl;
+          gap_same = refl;
         },
       )
 
@@ -205,10 +206,10 @@ module _ (bus slots a : ℕ) (c : Count) (reading : Reading) (v : View) (rests :
 
   put_leaves : IsAttached a → (h : ℕ) → IsHeadOf slots (length (put_of os)) h → slots_needed os reading a ≤ slots_free slots h (length (put_of os))
       → (q : Putting) (more : List Did) (tail : ℕ) → q.offers ≡ os ++ entry (Some h) outcome.Put ∷ [] → q.put ≡ p.put ++ (lead os reading a ++ item.Reading reading ∷ [])
-      → q.holds_slot ≡ false → q.lead ≡ [] → q.ended ≡ p.ended → q.steps ≡ p.steps ++ more → AreStepsBy (entry (Some h) outcome.Put) outcome.Put more
+      → q.holds_slot ≡ false → q.lead ≡ [] → q.ended ≡ p.ended → q.gap ≡ p.gap → q.steps ≡ p.steps ++ more → AreStepsBy (entry (Some h) outcome.Put) outcome.Put more
       → tail ≡ length q.put → tail ≤ c.tail + 2
       → (v' : View) → v' ≡ record v { putting = q } → PutterRests (done_count tail) v' × OfferMade bus slots reading v v' offer.Put
-  put_leaves odd h fits enough q more tail offers put home led ended steps are count at_most v' view =
+  put_leaves odd h fits enough q more tail offers put home led ended gap steps are count at_most v' view =
       let o : Offered = entry (Some h) outcome.Put in
       let number = rests.number_is in
       let room = may.room in
@@ -237,6 +238,7 @@ module _ (bus slots a : ℕ) (c : Count) (reading : Reading) (v : View) (rests :
           steps_are = steps;
           are_steps = are;
           still_open = ended;
+          gap_same = gap;
         },
       )
 
@@ -425,7 +427,7 @@ module _ (bus slots a h : ℕ) (c : Count) (reading : Reading) (led : Option Ite
           ∙ append_assoc v.putting.steps (LA ∷ []) (LH ∷ did.Stored tail_word (T + 1) ∷ [])) in
           let one : slots_needed v.putting.offers reading a ≡ 1 = ap (λ (l : List Item). length l + 1) (sym empty) in
           put_leaves bus slots a c reading v rests may seen.words seen.odd h fits_here enough_here q (LA ∷ LH ∷ did.Stored tail_word (T + 1) ∷ []) next refl
-          (ap (λ (l : List Item). v.putting.put ++ (l ++ item.Reading reading ∷ [])) empty) refl refl refl steps (h, refl, inl (one, refl))
+          (ap (λ (l : List Item). v.putting.put ++ (l ++ item.Reading reading ∷ [])) empty) refl refl refl refl steps (h, refl, inl (one, refl))
           (omega (arith, put.1, rests.tail_is, length-append v.putting.put (item.Reading reading ∷ []))) (omega (arith, put.1)) v3 view
       put_end (Some x) some_x v3 next put =
           let full : x ∷ [] ≡ lead v.putting.offers reading a = ap option_to_list (sym some_x) ∙ led_here in
@@ -445,7 +447,7 @@ module _ (bus slots a h : ℕ) (c : Count) (reading : Reading) (led : Option Ite
           append_assoc v.putting.put (x ∷ []) (item.Reading reading ∷ [])
           ∙ ap (λ (l : List Item). v.putting.put ++ (l ++ item.Reading reading ∷ [])) full in
           put_leaves bus slots a c reading v rests may seen.words seen.odd h fits_here enough_here q (LA ∷ LH ∷ S (T + 1) ∷ LN ∷ S (T + 2) ∷ []) next refl
-          put_is refl refl refl steps (h, refl, inr (two, (n, refl)))
+          put_is refl refl refl refl steps (h, refl, inr (two, (n, refl)))
           (omega (arith, put.1, rests.tail_is, length-append v.putting.put (x ∷ []), length-append (v.putting.put ++ x ∷ []) (item.Reading reading ∷ []))) (omega (arith, put.1)) v3 view
 
 -- after a refusal no slot is out

@@ -1,9 +1,9 @@
 -- There is one way to part items into groups, one way in which an offer ends, and the first turn begins at the first
 -- record.
-use Rattle.std.proofs.Common.{◌≡◌, ◌≢◌, ◌⊎◌, ℕ, zero, suc, ◌+◌, ◌-◌, ◌%◌, ◌<◌, ◌≤◌, ◌==◌, Bool, true, false, cond, List, [], ◌∷◌, ◌++◌}
-use Rattle.std.proofs.Common.{length, get_or, map, take, slice_get, flat_map, All, AllPairs, Contains, Option, Some, None, refl, sym, ap, ◌∙◌, subst}
-use Rattle.std.proofs.Common.{arith, append-nil, append_assoc, inl, inr, ⊎_elim}
-use Rattle.std.proofs.lemmas.Bool.{cases_lt, cond-true, cond-false}
+use Rattle.std.proofs.Common.{◌≡◌, ℕ, zero, suc, ◌+◌, ◌-◌, ◌<◌, ◌≤◌, ◌==◌, true, false, List, [], ◌∷◌, ◌++◌}
+use Rattle.std.proofs.Common.{length, get_or, take, slice_get, flat_map, All, Contains, Option, Some, None, refl, sym, ap, ◌∙◌, subst}
+use Rattle.std.proofs.Common.{arith, append-nil, append_assoc, ⊎_elim}
+use Rattle.std.proofs.lemmas.Bool.{cases_lt}
 use Rattle.std.proofs.lemmas.Option.{none-some, same_Some}
 use Rattle.std.proofs.lemmas.List.Elements.{All-head, All-tail, All-weaker, All-contains}
 use Rattle.std.specs.List.{range_with_len}
@@ -13,10 +13,10 @@ use Rattle.bench_model.specs.declared.reading.Item.TheVariants as item
 use Rattle.gap_ring.specs.declared.entries.Outcome.{Outcome}
 use Rattle.gap_ring.specs.declared.entries.Outcome.TheVariants as outcome
 use Rattle.gap_ring.specs.declared.entries.Offered.{Offered}
-use Rattle.gap_ring.specs.Offers.{IsAttached, IsDetached, IsHeadOf, puts, is_put, lead, put_after, put_of, slots_needed, slots_free}
+use Rattle.gap_ring.specs.Offers.{IsAttached, IsDetached, IsHeadOf, puts, is_put, put_after, put_of, slots_free}
 use Rattle.gap_ring.specs.Offers.{Ends, IsOffered, AreOffersAfter, AreOffers, readings_of}
-use Rattle.gap_ring.specs.Tiles.{Tiles, IsFrom, numbers_in}
-use Rattle.gap_ring.specs.Groups.{Group, group_items, Ended, IsGroup, AreGroups}
+use Rattle.gap_ring.specs.Tiles.{Tiles, IsFrom}
+use Rattle.gap_ring.specs.Groups.{Group, group_items, OfferWas, IsGroup, AreGroups}
 use Rattle.gap_ring.proofs.PlaceLaws.{all_pairs_tail, head_same, tail_same}
 
 -- an item that is no Start
@@ -200,7 +200,7 @@ first_turn bus capacity os gs g room h groups in_it one =
     by_place os gs g.number refl h groups in_it (All-contains (IsGroup os) gs g groups.each in_it).starts
   where
     by_place : (qs : List Offered) (hs : List Group) (n : ℕ) → g.number ≡ n → AreOffers bus capacity qs → AreGroups bus qs (put_of qs) hs → Contains hs g
-        → Ended outcome.Put qs g.turn g.number → g.number ≡ 0
+        → OfferWas outcome.Put qs g.turn g.number → g.number ≡ 0
     by_place qs hs zero e h groups in_it starts = e
     by_place [] hs (suc n) e h groups in_it starts = absurd (none-some starts.0 starts.1)
     by_place (o ∷ qs) hs (suc n) e h groups in_it starts =

@@ -1,14 +1,15 @@
--- Each step of the putter keeps the rule.
-use Rattle.std.proofs.Common.{◌≡◌, ◌≢◌, ◌⊎◌, ℕ, zero, suc, ◌+◌, ◌-◌, ◌%◌, ◌<◌, ◌≤◌, ◌==◌, nat_lt, Bool, true, false, cond, true≢false, List, [], ◌∷◌, ◌++◌, length, set}
-use Rattle.std.proofs.Common.{slice_index, slice_get, All, Option, Some, None, refl, sym, ap, ◌∙◌, subst, arith, inl, inr, ⊎_elim, length-set, length-append}
+-- Each load of the putter, and each store of the tail, keeps the rule.
+use Rattle.std.proofs.Common.{◌≡◌, ℕ, ◌+◌, ◌%◌, ◌<◌, ◌≤◌, ◌==◌, true, false, cond, true≢false, List, [], ◌∷◌, ◌++◌, length, set}
+use Rattle.std.proofs.Common.{slice_index, All, Option, Some, None, refl, sym, ap, ◌∙◌, subst, arith, inl, ⊎_elim, length-set, length-append}
 use Rattle.std.proofs.lemmas.List.{length-map}
+use Rattle.std.proofs.lemmas.Option.{none-some, same_Some}
 use Rattle.std.proofs.Common.{append-nil, append_assoc, ltb-true, ltb-false, eqb-true}
-use Rattle.std.proofs.lemmas.Bool.{cases_Bool, cases_eq, cond-true, cond-false, cond_both, eqb-false}
+use Rattle.std.proofs.lemmas.Bool.{cases_Bool, cond-true, cond-false, cond_both}
 use Rattle.std.proofs.lemmas.List.Elements.{All-nil, All-cons, All-push, All-weaker}
 use mathlib.Core.Option.{none, some}
 use mathlib.Core.Option as maybe
 use lib.ListN.{get_elem?}
-use Rattle.atomic_table.specs.Table.{State, Me, Step, Act, step, keeps, takes, gives, put_back, rest, stepped, carried_after, homes_after, Valid, Allows}
+use Rattle.atomic_table.specs.Table.{State, Act, step, keeps, takes, gives, put_back, rest, stepped, carried_after, homes_after, Valid, Allows}
 use Rattle.bench_model.specs.declared.reading.Reading.{Reading}
 use Rattle.bench_model.specs.declared.reading.Item.{Item}
 use Rattle.bench_model.specs.declared.reading.Item.TheVariants as item
@@ -16,26 +17,24 @@ use Rattle.gap_ring.specs.declared.entries.Outcome.{Outcome}
 use Rattle.gap_ring.specs.declared.entries.Outcome.TheVariants as outcome
 use Rattle.gap_ring.specs.declared.entries.Offered.{Offered}
 use Rattle.gap_ring.specs.declared.entries.Taken.{Taken}
-use Rattle.gap_ring.specs.declared.view.Did.{Did}
 use Rattle.gap_ring.specs.declared.view.Did.TheVariants as did
-use Rattle.gap_ring.specs.declared.view.GapWords.{GapWords}
 use Rattle.gap_ring.specs.declared.view.Putting.{Putting}
 use Rattle.gap_ring.specs.declared.view.Taking.{Taking}
 use Rattle.gap_ring.specs.declared.view.View.{View}
-use Rattle.gap_ring.specs.Offers.{IsAttached, IsDetached, IsHeadOf, Ends, IsOffered, slots_needed, slots_free, lead, put_by, put_of, trailing, gap_of, last_version_of}
+use Rattle.gap_ring.specs.Offers.{IsDetached, IsHeadOf, IsHeadBy, Ends, IsOffered, slots_needed, slots_free, put_by, put_of}
 use Rattle.gap_ring.specs.Turns.{items_taken, IsStartBy}
-use Rattle.gap_ring.specs.Rule.{head_word, tail_word, end_word, attach_word, first_word, last_word, versions_word, end_of, gap_words_of}
-use Rattle.gap_ring.specs.Rule.{most_offers, Words, PutRule, TakeRule, Slots, EndRule, KeptBy, Kept, IsLead}
-use Rattle.gap_ring.specs.Steps.{Sat, item_in, record_in, entry_of, did_put, with_attach, with_offer, with_slot, with_head, with_gap_word, is_short, slot_taken}
-use Rattle.gap_ring.specs.Steps.{attach_seen, saw_attach, head_seen, saw_head, reached, lead_put, put_lead, record_put, put_record, gap_stored, stored_gap, end_stored, stored_end}
+use Rattle.gap_ring.specs.Rule.{head_word, tail_word, attach_word, end_of}
+use Rattle.gap_ring.specs.Rule.{most_offers, PutRule, TakeRule, Slots, EndRule, KeptBy, Kept, IsLead}
+use Rattle.gap_ring.specs.Steps.{Sat, PutterLoads, PutterStores, item_in, record_in, entry_of, did_put, with_attach, with_offer, with_slot, with_head, is_short, slot_taken}
+use Rattle.gap_ring.specs.Steps.{attach_seen, saw_attach, head_seen, saw_head, reached, lead_put, put_lead, record_put, put_record}
 use Rattle.gap_ring.proofs.PlaceLaws.{get_longer}
-use Rattle.gap_ring.specs.May.{IsGapWord, MayOffer, MayPut, MayReach, MayLead, MayRecord, MayEnd}
+use Rattle.gap_ring.specs.May.{MayOffer, MayPut, MayReach, MayLead, MayRecord}
 use Rattle.gap_ring.proofs.OneMoreLaws.{put-snoc, offers-snoc}
 use Rattle.gap_ring.proofs.SeatLaws.{seats_after_put}
 use Rattle.gap_ring.proofs.WordLaws as words
 use Rattle.gap_ring.proofs.SlotLaws.{slots_same, tail_free, tail_taken, tail_given}
 
-abbrev Board : Type 0
+abbrev pub Board : Type 0
 Board = State (Option Item) View
 
 -- the rule, by what the putter's seat knows
@@ -46,7 +45,7 @@ end_open : (p : Putting) → p.ended ≡ false → end_of p ≡ 0
 end_open p h = cond-false p.ended (length p.offers + 1) 0 h
 
 -- before the end the taker has found no end
-end_kept : (p p' : Putting) (t : Taking) → p.ended ≡ false → p'.ended ≡ false → EndRule p t → EndRule p' t
+pub end_kept : (p p' : Putting) (t : Taking) → p.ended ≡ false → p'.ended ≡ false → EndRule p t → EndRule p' t
 end_kept p p' t before after h = record {
   no_lead = λ e. absurd (true≢false (sym e ∙ after));
   gap_is = λ e. absurd (true≢false (sym e ∙ after));
@@ -56,7 +55,7 @@ end_kept p p' t before after h = record {
 }
 
 -- what is put besides a record
-take_kept : (capacity : ℕ) (p p' : Putting) (t : Taking) (waiting : List Item) → p'.put ≡ p.put → (p'.holds_slot ≡ true → length waiting < capacity)
+pub take_kept : (capacity : ℕ) (p p' : Putting) (t : Taking) (waiting : List Item) → p'.put ≡ p.put → (p'.holds_slot ≡ true → length waiting < capacity)
     → p'.attach ≤ t.attach → p'.head ≤ length t.taken → TakeRule capacity p t waiting → TakeRule capacity p' t waiting
 take_kept capacity p p' t waiting put slot attach head h = record {
   split = put ∙ h.split;
@@ -171,12 +170,34 @@ loaded_attach bus capacity n p h higher =
       lead_is = h.lead_is;
       attach_low = omega arith;
       attach_high = All-weaker (λ (o : Offered). o.attach ≤ p.attach) (λ o. o.attach ≤ n) (λ o below. omega arith) p.offers h.attach_high;
+      head_high = h.head_high;
     }
 
+pub head_later : (n m : ℕ) (o : Offered) → n ≤ m → IsHeadBy n o → IsHeadBy m o
+head_later n m o low h k e = let below : k ≤ n = h k e in omega arith
+
+loaded_head : (bus capacity n : ℕ) (p : Putting) → PutRule bus capacity p → p.head ≤ n → PutRule bus capacity (with_head p n)
+loaded_head bus capacity n p h higher = record {
+  offered = h.offered;
+  few = h.few;
+  put_is = h.put_is;
+  lead_is = h.lead_is;
+  attach_low = h.attach_low;
+  attach_high = h.attach_high;
+  head_high = All-weaker (IsHeadBy p.head) (IsHeadBy n) (λ o below. head_later p.head n o higher below) p.offers h.head_high;
+}
+
+-- the head of an entry
+head_of_none : (n : ℕ) (o : Offered) → o.head ≡ None → IsHeadBy n o
+head_of_none n o none_is k e = absurd (none-some k (sym none_is ∙ e))
+
+head_of_some : (n : ℕ) (o : Offered) → o.head ≡ Some n → IsHeadBy n o
+head_of_some n o some_is k e = let same : n ≡ k = same_Some n k (sym some_is ∙ e) in omega arith
+
 -- an offer that puts nothing
-offered_unput : (bus capacity : ℕ) (p : Putting) (o : Offered) → PutRule bus capacity p → IsOffered bus capacity p.offers o → put_by p.offers o ≡ [] → o.attach ≤ p.attach → length p.offers < most_offers
+offered_unput : (bus capacity : ℕ) (p : Putting) (o : Offered) → PutRule bus capacity p → IsOffered bus capacity p.offers o → put_by p.offers o ≡ [] → o.attach ≤ p.attach → IsHeadBy p.head o → length p.offers < most_offers
     → PutRule bus capacity (record p { offers = p.offers ++ o ∷ [] })
-offered_unput bus capacity p o h is nothing low room = record {
+offered_unput bus capacity p o h is nothing low head room = record {
   offered = offers-snoc bus capacity [] p.offers o h.offered is;
   few = omega (arith, length-append p.offers (o ∷ []));
   put_is =
@@ -185,6 +206,7 @@ offered_unput bus capacity p o h is nothing low room = record {
   lead_is = h.lead_is;
   attach_low = h.attach_low;
   attach_high = All-push (λ (q : Offered). q.attach ≤ p.attach) p.offers o h.attach_high low;
+  head_high = All-push (IsHeadBy p.head) p.offers o h.head_high head;
 }
 
 -- the entry of the offer that is made now
@@ -202,7 +224,7 @@ entry_is bus capacity p reading head how h its number ends = record {
 
 -- the attach word
 pub sees_attach : (bus slots id : ℕ) (me : Sat) (reading : Reading) → MayOffer bus reading me.0
-    → Allows (Kept bus) slots id me attach_word (λ n. n) (saw_attach (Some reading) (step slots attach_word 0 0 none) me)
+    → Allows (Kept bus) slots id me attach_word (λ n. n) (PutterLoads (saw_attach (Some reading)) (step slots attach_word 0 0 none) me)
 sees_attach bus slots id me reading may s kept deep at below =
     let own = putter_own bus s id me.0 kept at may.may in
     let t : Taking = own.0 in
@@ -218,18 +240,18 @@ sees_attach bus slots id me reading may s kept deep at below =
     let at_even = λ (even : (n % 2 == 0) ≡ true).
     let detached : IsDetached n = eqb-true (n % 2) 0 even in
     let entry = entry_is bus (length s.homes) (with_attach p n) reading None outcome.Away rule may.its may.number (detached, refl) in
-    let full : PutRule bus (length s.homes) away = offered_unput bus (length s.homes) (with_attach p n) (entry_of (with_attach p n) reading None outcome.Away) rule entry refl (omega arith) may.room in
+    let full : PutRule bus (length s.homes) away = offered_unput bus (length s.homes) (with_attach p n) (entry_of (with_attach p n) reading None outcome.Away) rule entry refl (omega arith) (head_of_none p.head (entry_of (with_attach p n) reading None outcome.Away) refl) may.room in
     quiet bus s id me.0 (did_put away (did.Loaded attach_word n)) t r at may.may may.open_ may.open_ attach_word refl refl refl low r.take.head_seen
-    record { offered = full.offered; few = full.few; put_is = full.put_is; lead_is = full.lead_is; attach_low = full.attach_low; attach_high = full.attach_high } in
+    record { offered = full.offered; few = full.few; put_is = full.put_is; lead_is = full.lead_is; attach_low = full.attach_low; attach_high = full.attach_high; head_high = full.head_high } in
     let at_odd = λ (odd : (n % 2 == 0) ≡ false).
     quiet bus s id me.0 (did_put (with_attach p n) (did.Loaded attach_word n)) t r at may.may may.open_ may.open_ attach_word refl refl refl low r.take.head_seen
-    record { offered = rule.offered; few = rule.few; put_is = rule.put_is; lead_is = rule.lead_is; attach_low = rule.attach_low; attach_high = rule.attach_high } in
+    record { offered = rule.offered; few = rule.few; put_is = rule.put_is; lead_is = rule.lead_is; attach_low = rule.attach_low; attach_high = rule.attach_high; head_high = rule.head_high } in
     let by : P (cond (n % 2 == 0) away (with_attach p n)) = cond_both (n % 2 == 0) away (with_attach p n) P at_even at_odd in (
       record me.0 { putting = attach_seen reading n p },
       keeps,
       tt,
       record { p = attach_seen reading n p; t = t; by = by },
-      (refl, refl, rule.attach_low, rule.attach_high),
+      ((refl, refl, rule.attach_low, rule.attach_high), cond_both (n % 2 == 0) away (with_attach p n) (λ (q : Putting). q.steps ++ did.Loaded attach_word n ∷ [] ≡ p.steps ++ did.Loaded attach_word n ∷ []) (λ _. refl) (λ _. refl)),
     )
 
 -- what the head is to the tail
@@ -271,6 +293,9 @@ module _ (bus slots id : ℕ) (me : Sat) (reading : Reading) (may : MayPut bus r
   abbrev Next : Putting → Act (Option Item) → Type 0
   Next p' a = Kept bus (stepped s head_word found id me.1 (record me.0 { putting = p' }) a)
 
+  seen_rule : PutRule bus (length s.homes) (with_head q found)
+  seen_rule = let seen = own_rule.take.head_seen in loaded_head bus (length s.homes) found q own_rule.put (omega (arith, found_is))
+
   -- too few slots: the offer is refused
   abbrev refusal : Putting
   refusal = did_put (with_offer (with_head q found) reading (Some found) outcome.Refused) (did.Loaded head_word found)
@@ -282,13 +307,14 @@ module _ (bus slots id : ℕ) (me : Sat) (reading : Reading) (may : MayPut bus r
       let h : PutRule bus (length s.homes) q = own_rule.put in
       let entry = entry_is bus (length s.homes) q reading (Some found) outcome.Refused h may.offer.its may.offer.number
       (subst (λ c. Ends c q.attach (Some found) (length (put_of q.offers)) (slots_needed q.offers reading q.attach) outcome.Refused) (sym deep) ends) in
-      let full = offered_unput bus (length s.homes) q (entry_of q reading (Some found) outcome.Refused) h entry refl (omega arith) may.offer.room in
       let low : found ≤ length others.taken = omega (arith, found_is) in
+      let o : Offered = entry_of q reading (Some found) outcome.Refused in
+      let full = offered_unput bus (length s.homes) (with_head q found) o seen_rule entry refl (omega arith) (head_of_some found o refl) may.offer.room in
       record {
         p = refusal;
         t = others;
         by = quiet bus s id me.0 refusal others own_rule at may.offer.may may.offer.open_ may.offer.open_ head_word refl refl refl own_rule.take.attach_seen low
-            record { offered = full.offered; few = full.few; put_is = full.put_is; lead_is = full.lead_is; attach_low = full.attach_low; attach_high = full.attach_high };
+            record { offered = full.offered; few = full.few; put_is = full.put_is; lead_is = full.lead_is; attach_low = full.attach_low; attach_high = full.attach_high; head_high = full.head_high };
       }
 
   -- room: the slot of the tail is taken
@@ -304,12 +330,12 @@ module _ (bus slots id : ℕ) (me : Sat) (reading : Reading) (may : MayPut bus r
 
   advance_step : is_short slots found q reading ≡ false → Next advance (takes (length q.put % length s.homes) None)
   advance_step roomy =
-      let h = own_rule.put in
+      let h = seen_rule in
       record {
         p = advance;
         t = others;
         by = slot_goes bus s id me.0 advance others own_rule at may.offer.may may.offer.open_ may.offer.open_ head_word (enough roomy) may.offer.home refl refl refl own_rule.take.attach_seen (omega (arith, found_is))
-            record { offered = h.offered; few = h.few; put_is = h.put_is; lead_is = h.lead_is; attach_low = h.attach_low; attach_high = h.attach_high };
+            record { offered = h.offered; few = h.few; put_is = h.put_is; lead_is = h.lead_is; attach_low = h.attach_low; attach_high = h.attach_high; head_high = h.head_high };
       }
 
   free_there : is_short slots found q reading ≡ false → get_elem? s.homes (length q.put % length s.homes) ≡ some (some None)
@@ -318,7 +344,7 @@ module _ (bus slots id : ℕ) (me : Sat) (reading : Reading) (may : MayPut bus r
   abbrev Result : Type 0
   Result =
       (w : View) × (a : Act (Option Item)) × Valid s.homes me.1 a × Kept bus (stepped s head_word found id me.1 w a)
-      × saw_head (Some reading) (step slots head_word 0 0 none) me found (w, carried_after me.1 a)
+      × PutterLoads (saw_head (Some reading)) (step slots head_word 0 0 none) me found (w, carried_after me.1 a)
 
   decided : Result
   decided =
@@ -327,21 +353,21 @@ module _ (bus slots id : ℕ) (me : Sat) (reading : Reading) (may : MayPut bus r
       let view : head_seen slots reading found q ≡ refusal =
       ap (λ z. did_put z (did.Loaded head_word found)) (cond-true (is_short slots found q reading) (with_offer (with_head q found) reading (Some found) outcome.Refused) (with_slot (with_head q found)) short) in
       let hand : me.1 ≡ cond (is_short slots found q reading) [] (slot_taken slots q) = bare ∙ sym (cond-true (is_short slots found q reading) [] (slot_taken slots q) short) in
-      (record me.0 { putting = refusal }, keeps, tt, refused_step short, (ap (λ z. record me.0 { putting = z }) (sym view), hand, fits)))
+      (record me.0 { putting = refusal }, keeps, tt, refused_step short, ((ap (λ z. record me.0 { putting = z }) (sym view), hand, fits), refl)))
       (λ (roomy : is_short slots found q reading ≡ false).
       let view : head_seen slots reading found q ≡ advance =
       ap (λ z. did_put z (did.Loaded head_word found)) (cond-false (is_short slots found q reading) (with_offer (with_head q found) reading (Some found) outcome.Refused) (with_slot (with_head q found)) roomy) in
       let slot : (length q.put % length s.homes, None) ∷ me.1 ≡ slot_taken slots q = ap (λ n. (length q.put % n, None) ∷ me.1) deep ∙ ap (λ l. (length q.put % slots, None) ∷ l) bare in
       let hand : (length q.put % length s.homes, None) ∷ me.1 ≡ cond (is_short slots found q reading) [] (slot_taken slots q) = slot ∙ sym (cond-false (is_short slots found q reading) [] (slot_taken slots q) roomy) in
-      (record me.0 { putting = advance }, takes (length q.put % length s.homes) None, free_there roomy, advance_step roomy, (ap (λ z. record me.0 { putting = z }) (sym view), hand, fits)))
+      (record me.0 { putting = advance }, takes (length q.put % length s.homes) None, free_there roomy, advance_step roomy, ((ap (λ z. record me.0 { putting = z }) (sym view), hand, fits), refl)))
       (cases_Bool (is_short slots found q reading))
 
 pub sees_head : (bus slots id : ℕ) (me : Sat) (reading : Reading) → MayPut bus reading me.0 → me.1 ≡ []
-    → Allows (Kept bus) slots id me head_word (λ n. n) (saw_head (Some reading) (step slots head_word 0 0 none) me)
+    → Allows (Kept bus) slots id me head_word (λ n. n) (PutterLoads (saw_head (Some reading)) (step slots head_word 0 0 none) me)
 sees_head bus slots id me reading may bare s kept deep at below = decided bus slots id me reading may bare s kept deep at
 
 pub reaches : (bus slots id : ℕ) (me : Sat) → MayReach slots me.0 → me.1 ≡ []
-    → Allows (Kept bus) slots id me head_word (λ n. n) (reached (step slots head_word 0 0 none) me)
+    → Allows (Kept bus) slots id me head_word (λ n. n) (PutterLoads reached (step slots head_word 0 0 none) me)
 reaches bus slots id me may bare s kept deep at below =
     let own = putter_own bus s id me.0 kept at may.may in
     let t : Taking = own.0 in
@@ -350,7 +376,7 @@ reaches bus slots id me may bare s kept deep at below =
     let n : ℕ = slice_index s.words head_word in
     let p' : Putting = did_put (with_slot p) (did.Loaded head_word n) in
     let h : PutRule bus (length s.homes) p = r.put in
-    let full : PutRule bus (length s.homes) p' = record { offered = h.offered; few = h.few; put_is = h.put_is; lead_is = h.lead_is; attach_low = h.attach_low; attach_high = h.attach_high } in
+    let full : PutRule bus (length s.homes) p' = record { offered = h.offered; few = h.few; put_is = h.put_is; lead_is = h.lead_is; attach_low = h.attach_low; attach_high = h.attach_high; head_high = h.head_high } in
     let wide : length p.put < p.head + length s.homes = omega (arith, may.room, deep) in
     let room : length r.waiting < length s.homes = head_room bus s p t 0 p.head r r.take.head_seen wide in
     let slot : (length p.put % length s.homes, None) ∷ me.1 ≡ slot_taken slots p = ap (λ k. (length p.put % k, None) ∷ me.1) deep ∙ ap (λ l. (length p.put % slots, None) ∷ l) bare in (
@@ -358,7 +384,7 @@ reaches bus slots id me may bare s kept deep at below =
       takes (length p.put % length s.homes) None,
       free_slot bus s id me.0 p' t r at may.may may.open_ may.open_ room may.home,
       record { p = p'; t = t; by = slot_goes bus s id me.0 p' t r at may.may may.open_ may.open_ head_word room may.home refl refl refl r.take.attach_seen r.take.head_seen full },
-      (refl, slot),
+      ((refl, slot), refl),
     )
 
 pub start_by_later : (a b : ℕ) (x : Item) → a ≤ b → IsStartBy a x → IsStartBy b x
@@ -372,7 +398,7 @@ given_back : (homes : List (maybe.Option (Option Item))) (c : List (ℕ × Optio
 given_back homes c k y e = ap (λ l. put_back homes l) e
 
 pub puts_lead : (bus slots id n : ℕ) (me : Sat) (x : Item) → MayLead bus x n me.0 → me.1 ≡ (length me.0.putting.put % slots, Some x) ∷ []
-    → Allows (Kept bus) slots id me tail_word (λ _. n) (λ _. put_lead (Some x) (step slots tail_word n 0 none) me n)
+    → Allows (Kept bus) slots id me tail_word (λ _. n) (λ _. PutterStores (put_lead (Some x)) (step slots tail_word n 0 none) me n)
 puts_lead bus slots id n me x may held s kept deep at below =
     let own = putter_own bus s id me.0 kept at may.may in
     let t : Taking = own.0 in
@@ -388,6 +414,7 @@ puts_lead bus slots id n me x may held s kept deep at below =
       lead_is = All-cons (IsLead bus) x [] may.is_lead (All-nil (IsLead bus));
       attach_low = h.attach_low;
       attach_high = h.attach_high;
+      head_high = h.head_high;
     } in
     let start : IsStartBy t.attach x = start_by_later p.attach t.attach x r.take.attach_seen may.in_time in
     let next = slot_comes bus s id me.0 p' t r at may.may may.open_ may.open_ x n may.mine refl refl may.count refl r.take.attach_seen r.take.head_seen start full in
@@ -398,11 +425,11 @@ puts_lead bus slots id n me x may held s kept deep at below =
       gives,
       tt,
       record { p = p'; t = t; by = by },
-      (refl, ap rest held),
+      ((refl, ap rest held), refl),
     )
 
 pub puts_record : (bus slots id n : ℕ) (me : Sat) (reading : Reading) → MayRecord bus slots reading n me.0 → me.1 ≡ (length me.0.putting.put % slots, Some (item.Reading reading)) ∷ []
-    → Allows (Kept bus) slots id me tail_word (λ _. n) (λ _. put_record (Some reading) (step slots tail_word n 0 none) me n)
+    → Allows (Kept bus) slots id me tail_word (λ _. n) (λ _. PutterStores (put_record (Some reading)) (step slots tail_word n 0 none) me n)
 puts_record bus slots id n me reading may held s kept deep at below =
     let own = putter_own bus s id me.0 kept at may.may in
     let t : Taking = own.0 in
@@ -427,6 +454,7 @@ puts_record bus slots id n me reading may held s kept deep at below =
       lead_is = All-nil (IsLead bus);
       attach_low = h.attach_low;
       attach_high = All-push (λ (q : Offered). q.attach ≤ p.attach) p.offers o h.attach_high (omega arith);
+      head_high = All-push (IsHeadBy p.head) p.offers o h.head_high (head_of_some p.head o refl);
     } in
     let next = slot_comes bus s id me.0 p' t r at may.may may.open_ may.open_ x n may.mine refl refl may.count refl r.take.attach_seen r.take.head_seen tt full in
     let back : homes_after s.homes me.1 gives ≡ set s.homes (length p.put % length s.homes) (some (Some x)) =
@@ -436,133 +464,24 @@ puts_record bus slots id n me reading may held s kept deep at below =
       gives,
       tt,
       record { p = p'; t = t; by = by },
-      (refl, ap rest held),
-    )
-
-module _ (bus : ℕ) (s : Board) (id : ℕ) (v : View) (p' : Putting) (t : Taking) (r : KeptBy bus s v.putting t)
-    (at : get_elem? s.views id ≡ some v) (may : v.puts ≡ true) where
-  -- a store that changes no slot
-  word_stored : (ws : List ℕ) → p'.put ≡ v.putting.put → p'.holds_slot ≡ v.putting.holds_slot → p'.attach ≡ v.putting.attach → p'.head ≡ v.putting.head
-      → Words ws p' t → EndRule p' t → PutRule bus (length s.homes) p' → KeptBy bus (record { words = ws; homes = s.homes; views = set s.views id (record v { putting = p' }) }) p' t
-  word_stored ws put slot attach head is end rule =
-      let low = r.take.attach_seen in
-      let low' = r.take.head_seen in
-      record {
-        waiting = r.waiting;
-        putter = r.putter;
-        taker = r.taker;
-        bus_is = r.bus_is;
-        deep = r.deep;
-        words = is;
-        put = rule;
-        take = take_kept (length s.homes) v.putting p' t r.waiting put (λ e. r.take.slot_free (sym slot ∙ e)) (omega arith) (omega arith) r.take;
-        slots = slots_same s.homes v.putting p' t t r.waiting r.slots slot refl refl;
-        end = end;
-        each_seat = seats_after_put r.putter r.taker v.putting t s.views r.each_seat id v p' at may;
-      }
-
-put_rule_same : (bus capacity : ℕ) (p : Putting) (gap : GapWords) (ended : Bool) (steps : List Did) → PutRule bus capacity p → PutRule bus capacity (record p { gap = gap; ended = ended; steps = steps })
-put_rule_same bus capacity p gap ended steps h = record { offered = h.offered; few = h.few; put_is = h.put_is; lead_is = h.lead_is; attach_low = h.attach_low; attach_high = h.attach_high }
-
-pub stores_first : (bus slots id n : ℕ) (me : Sat) → MayEnd me.0 → Allows (Kept bus) slots id me first_word (λ _. n) (λ _. stored_gap (step slots first_word n 0 none) me n)
-stores_first bus slots id n me may s kept deep at below =
-    let own = putter_own bus s id me.0 kept at may.may in
-    let r : KeptBy bus s me.0.putting own.0 = own.1 in
-    let p : Putting = me.0.putting in
-    let p' : Putting = gap_stored first_word n p in
-    let rule = put_rule_same bus (length s.homes) p p'.gap p.ended p'.steps r.put in
-    let is = words.first_stored s.words p own.0 r.words n p' refl refl refl in (
-      record me.0 { putting = p' },
-      keeps,
-      tt,
-      record { p = p'; t = own.0; by = word_stored bus s id me.0 p' own.0 r at may.may (set s.words first_word n) refl refl refl refl is (end_kept p p' own.0 may.open_ may.open_ r.end) rule },
-      (refl, refl),
-    )
-
-pub stores_last : (bus slots id n : ℕ) (me : Sat) → MayEnd me.0 → Allows (Kept bus) slots id me last_word (λ _. n) (λ _. stored_gap (step slots last_word n 0 none) me n)
-stores_last bus slots id n me may s kept deep at below =
-    let own = putter_own bus s id me.0 kept at may.may in
-    let r : KeptBy bus s me.0.putting own.0 = own.1 in
-    let p : Putting = me.0.putting in
-    let p' : Putting = gap_stored last_word n p in
-    let rule = put_rule_same bus (length s.homes) p p'.gap p.ended p'.steps r.put in
-    let is = words.last_stored s.words p own.0 r.words n p' refl refl refl in (
-      record me.0 { putting = p' },
-      keeps,
-      tt,
-      record { p = p'; t = own.0; by = word_stored bus s id me.0 p' own.0 r at may.may (set s.words last_word n) refl refl refl refl is (end_kept p p' own.0 may.open_ may.open_ r.end) rule },
-      (refl, refl),
-    )
-
-pub stores_versions : (bus slots id n : ℕ) (me : Sat) → MayEnd me.0 → Allows (Kept bus) slots id me versions_word (λ _. n) (λ _. stored_gap (step slots versions_word n 0 none) me n)
-stores_versions bus slots id n me may s kept deep at below =
-    let own = putter_own bus s id me.0 kept at may.may in
-    let r : KeptBy bus s me.0.putting own.0 = own.1 in
-    let p : Putting = me.0.putting in
-    let p' : Putting = gap_stored versions_word n p in
-    let rule = put_rule_same bus (length s.homes) p p'.gap p.ended p'.steps r.put in
-    let is = words.versions_stored s.words p own.0 r.words n p' refl refl refl in (
-      record me.0 { putting = p' },
-      keeps,
-      tt,
-      record { p = p'; t = own.0; by = word_stored bus s id me.0 p' own.0 r at may.may (set s.words versions_word n) refl refl refl refl is (end_kept p p' own.0 may.open_ may.open_ r.end) rule },
-      (refl, refl),
-    )
-
--- the end word, once the gap words are those of the trailing gap
-pub stores_end : (bus slots id n : ℕ) (me : Sat) → MayEnd me.0 → n ≡ length me.0.putting.offers + 1
-    → me.0.putting.lead ≡ [] → me.0.putting.gap ≡ gap_words_of (gap_of (trailing me.0.putting.offers))
-    → last_version_of (gap_of (trailing me.0.putting.offers)) < 4294967296
-    → Allows (Kept bus) slots id me end_word (λ _. n) (λ _. stored_end (step slots end_word n 0 none) me n)
-stores_end bus slots id n me may count led gap fits s kept deep at below =
-    let own = putter_own bus s id me.0 kept at may.may in
-    let t : Taking = own.0 in
-    let r : KeptBy bus s me.0.putting t = own.1 in
-    let p : Putting = me.0.putting in
-    let p' : Putting = end_stored n p in
-    let rule = put_rule_same bus (length s.homes) p p.gap true p'.steps r.put in
-    let is = words.end_stored s.words p t r.words n p' count refl refl in
-    let end : EndRule p' t = record {
-      no_lead = λ _. led;
-      gap_is = λ _. gap;
-      fits = λ _. fits;
-      end_seen = ⊎_elim (λ (e : t.end ≡ 0). inl e) (λ (e : (p.ended ≡ true) × (t.end ≡ length p.offers + 1)). absurd (true≢false (sym e.0 ∙ may.open_))) r.end.end_seen;
-      done_is = λ d. absurd (true≢false (sym (r.end.done_is d).0 ∙ may.open_));
-    } in (
-      record me.0 { putting = p' },
-      keeps,
-      tt,
-      record { p = p'; t = t; by = word_stored bus s id me.0 p' t r at may.may (set s.words end_word n) refl refl refl refl is end rule },
-      (refl, refl),
+      ((refl, ap rest held), refl),
     )
 
 -- a store of the tail, once the slot in hand has the item
 pub lead_ready : (bus slots id n k : ℕ) (me me' : Sat) (x : Item) → MayLead bus x n me.0 → k ≡ length me.0.putting.put % slots → me.1 ≡ slot_taken slots me.0.putting
-    → me' ≡ (me.0, (k, Some x) ∷ rest me.1) → Allows (Kept bus) slots id me' tail_word (λ _. n) (λ _. put_lead (item_in me'.1) (step slots tail_word n 0 none) me' n)
+    → me' ≡ (me.0, (k, Some x) ∷ rest me.1) → Allows (Kept bus) slots id me' tail_word (λ _. n) (λ _. PutterStores (put_lead (item_in me'.1)) (step slots tail_word n 0 none) me' n)
 lead_ready bus slots id n k me me' x may place held is =
     let full : Sat = (me.0, (length me.0.putting.put % slots, Some x) ∷ []) in
     let same : me' ≡ full = is ∙ (ap (λ (l : List (ℕ × Option Item)). (me.0, (k, Some x) ∷ rest l)) held ∙ ap (λ (m : ℕ). (me.0, (m, Some x) ∷ [])) place) in
-    subst (λ (m : Sat). Allows (Kept bus) slots id m tail_word (λ _. n) (λ _. put_lead (item_in m.1) (step slots tail_word n 0 none) m n)) (sym same)
+    subst (λ (m : Sat). Allows (Kept bus) slots id m tail_word (λ _. n) (λ _. PutterStores (put_lead (item_in m.1)) (step slots tail_word n 0 none) m n)) (sym same)
     (puts_lead bus slots id n full x may refl)
 
 pub record_ready : (bus slots id n k : ℕ) (me me' : Sat) (reading : Reading) → MayRecord bus slots reading n me.0 → k ≡ length me.0.putting.put % slots → me.1 ≡ slot_taken slots me.0.putting
     → me' ≡ (me.0, (k, Some (item.Reading reading)) ∷ rest me.1)
-    → Allows (Kept bus) slots id me' tail_word (λ _. n) (λ _. put_record (record_in (item_in me'.1)) (step slots tail_word n 0 none) me' n)
+    → Allows (Kept bus) slots id me' tail_word (λ _. n) (λ _. PutterStores (put_record (record_in (item_in me'.1))) (step slots tail_word n 0 none) me' n)
 record_ready bus slots id n k me me' reading may place held is =
     let full : Sat = (me.0, (length me.0.putting.put % slots, Some (item.Reading reading)) ∷ []) in
     let same : me' ≡ full =
     is ∙ (ap (λ (l : List (ℕ × Option Item)). (me.0, (k, Some (item.Reading reading)) ∷ rest l)) held ∙ ap (λ (m : ℕ). (me.0, (m, Some (item.Reading reading)) ∷ [])) place) in
-    subst (λ (m : Sat). Allows (Kept bus) slots id m tail_word (λ _. n) (λ _. put_record (record_in (item_in m.1)) (step slots tail_word n 0 none) m n)) (sym same)
+    subst (λ (m : Sat). Allows (Kept bus) slots id m tail_word (λ _. n) (λ _. PutterStores (put_record (record_in (item_in m.1))) (step slots tail_word n 0 none) m n)) (sym same)
     (puts_record bus slots id n full reading may refl)
-
-pub stores_gap : (bus slots id n word : ℕ) (me : Sat) → MayEnd me.0 → IsGapWord word → Allows (Kept bus) slots id me word (λ _. n) (λ _. stored_gap (step slots word n 0 none) me n)
-stores_gap bus slots id n word me may which =
-    let P : ℕ → Type 0 = λ w. Allows (Kept bus) slots id me w (λ _. n) (λ _. stored_gap (step slots w n 0 none) me n) in
-    ⊎_elim
-    (λ (e : word ≡ first_word). subst P (sym e) (stores_first bus slots id n me may))
-    (λ (o : (word ≡ last_word) ⊎ (word ≡ versions_word)).
-    ⊎_elim
-    (λ (e : word ≡ last_word). subst P (sym e) (stores_last bus slots id n me may))
-    (λ (e : word ≡ versions_word). subst P (sym e) (stores_versions bus slots id n me may))
-    o)
-    which

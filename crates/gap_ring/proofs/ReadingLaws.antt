@@ -1,5 +1,5 @@
 -- The records put are those of the offers that were put, in order, so their numbers rise.
-use Rattle.std.proofs.Common.{◌≡◌, ℕ, zero, suc, ◌+◌, ◌<◌, ◌≤◌, ◌==◌, Bool, true, false, cond, List, [], ◌∷◌, ◌++◌, map, length, flat_map, filter, All, AllPairs}
+use Rattle.std.proofs.Common.{◌≡◌, ℕ, ◌+◌, ◌<◌, ◌≤◌, ◌==◌, true, false, cond, List, [], ◌∷◌, ◌++◌, map, length, filter, All, AllPairs}
 use Rattle.std.proofs.Common.{Option, Some, None, refl, sym, ap, ◌∙◌, subst, arith, ⊎_elim, length-append}
 use Rattle.std.proofs.lemmas.Bool.{cases_Bool, cond-true, cond-false}
 use Rattle.std.proofs.lemmas.List.Concat.{flat_map-append}
@@ -8,7 +8,7 @@ use Rattle.bench_model.specs.declared.reading.Missed.{Missed}
 use Rattle.bench_model.specs.declared.reading.Item.{Item}
 use Rattle.bench_model.specs.declared.reading.Item.TheVariants as item
 use Rattle.gap_ring.specs.declared.entries.Offered.{Offered}
-use Rattle.gap_ring.specs.Offers.{is_put, turn_of, trailing, gap_of, gap_item, lead, put_by, put_after, put_of, IsOffered, AreOffersAfter, AreOffers}
+use Rattle.gap_ring.specs.Offers.{is_put, turn_of, trailing, gap_of, gap_item, lead, put_by, put_after, put_of, AreOffersAfter, AreOffers}
 use Rattle.gap_ring.specs.Tiles.{number_read, numbers_read}
 use Rattle.gap_ring.proofs.PlaceLaws.{all_pairs_cons}
 

@@ -1,21 +1,19 @@
 -- The rule holds at the start, and when seats are cut in two and made one again.
-use Rattle.std.proofs.Common.{◌≡◌, ◌≢◌, ◌⊎◌, ℕ, zero, suc, ◌+◌, ◌<◌, ◌≤◌, Bool, true, false, true≢false, List, [], ◌∷◌, ◌++◌, length, map, replicate, set}
-use Rattle.std.proofs.Common.{slice_index, All, Option, Some, None, refl, sym, ap, ◌∙◌, subst, arith, inl, inr, length-set}
+use Rattle.std.proofs.Common.{◌≡◌, ℕ, ◌≤◌, true, true≢false, List, [], length, map, replicate, set}
+use Rattle.std.proofs.Common.{slice_index, Option, None, refl, sym, ap, ◌∙◌, arith, inl}
 use Rattle.std.proofs.lemmas.Option.{none-some}
 use Rattle.std.proofs.lemmas.List.{length-map, length-replicate}
 use Rattle.std.proofs.lemmas.List.Elements.{All-nil}
 use mathlib.Core.Option.{none, some}
 use mathlib.Core.Option as maybe
-use lib.ListN.{get_elem?}
-use Rattle.atomic_table.specs.Table.{State, opening, Splits, Joins}
+use Rattle.atomic_table.specs.Table.{opening, Splits, Joins}
 use Rattle.bench_model.specs.declared.reading.Item.{Item}
 use Rattle.gap_ring.specs.declared.entries.Offered.{Offered}
 use Rattle.gap_ring.specs.declared.entries.Taken.{Taken}
-use Rattle.gap_ring.specs.declared.view.Putting.{Putting}
-use Rattle.gap_ring.specs.declared.view.Taking.{Taking}
 use Rattle.gap_ring.specs.declared.view.View.{View}
+use Rattle.gap_ring.specs.Offers.{IsHeadBy}
 use Rattle.gap_ring.specs.Turns.{IsStartBy}
-use Rattle.gap_ring.specs.Rule.{first_view, first_putting, first_taking, word_count, attach_word, IsLead, Words, KeptBy, Kept}
+use Rattle.gap_ring.specs.Rule.{first_view, first_putting, first_taking, word_count, attach_word, IsLead, KeptBy, Kept}
 use Rattle.gap_ring.specs.Steps.{putter_side, taker_side, both_sides, spent_view}
 use Rattle.gap_ring.proofs.SeatLaws.{seats_start, seats_split, seats_join}
 use Rattle.gap_ring.proofs.SlotLaws.{slots_start}
@@ -56,6 +54,7 @@ starts bus capacity ws two is =
           lead_is = All-nil (IsLead bus);
           attach_low = omega arith;
           attach_high = All-nil (λ (o : Offered). o.attach ≤ 1);
+          head_high = All-nil (IsHeadBy 0);
         };
         take = record {
           split = refl;

@@ -1,30 +1,28 @@
 -- Each step of the taker keeps the rule.
-use Rattle.std.proofs.Common.{◌≡◌, ◌≢◌, ◌⊎◌, ℕ, zero, suc, ◌+◌, ◌-◌, ◌%◌, ◌<◌, ◌≤◌, ◌==◌, Bool, true, false, cond, true≢false, List, [], ◌∷◌, ◌++◌, length, set}
-use Rattle.std.proofs.Common.{slice_index, slice_get, All, AllPairs, MatchBool, Option, Some, None, refl, sym, ap, ◌∙◌, subst, arith, inl, inr, ⊎_elim, length-set, length-append}
-use Rattle.std.proofs.Common.{append-nil, append_assoc, eqb-true, map, eq-eqb, ne_eqb}
-use Rattle.std.proofs.lemmas.Bool.{cases_Bool, cases_eq, cond-true, cond-false, eqb-false}
+use Rattle.std.proofs.Common.{◌≡◌, ◌≢◌, ◌⊎◌, ℕ, ◌+◌, ◌%◌, ◌≤◌, ◌==◌, Bool, true, false, List, [], ◌∷◌, ◌++◌, length, set}
+use Rattle.std.proofs.Common.{slice_index, slice_get, All, MatchBool, Option, Some, None, refl, sym, ap, ◌∙◌, subst, arith, inl, inr, ⊎_elim, length-set, length-append}
+use Rattle.std.proofs.Common.{append-nil, append_assoc, eq-eqb, ne_eqb}
+use Rattle.std.proofs.lemmas.Bool.{cases_Bool, cases_eq, cond-true, cond-false}
 use Rattle.std.proofs.lemmas.Option.{none-some, same_Some}
-use Rattle.std.proofs.lemmas.List.{length-map, map-append, append_cancel_left, nil_from_length}
-use Rattle.std.proofs.lemmas.List.Elements.{All-nil, All-cons, All-push, All-weaker, All-head, All-get_or}
+use Rattle.std.proofs.lemmas.List.{length-map, map-append, nil_from_length}
+use Rattle.std.proofs.lemmas.List.Elements.{All-push, All-weaker, All-head}
 use Rattle.std.proofs.lemmas.List.Quantifiers.{all_pairs_push}
 use mathlib.Core.Option.{none, some}
 use mathlib.Core.Option as maybe
 use lib.ListN.{get_elem?}
-use Rattle.atomic_table.specs.Table.{State, Me, Step, Act, step, keeps, takes, gives, put_back, rest, stepped, carried_after, homes_after, Valid, Allows}
+use Rattle.atomic_table.specs.Table.{State, Act, step, keeps, takes, gives, put_back, rest, stepped, carried_after, homes_after, Valid, Allows}
 use Rattle.bench_model.specs.declared.reading.Item.{Item}
 use Rattle.gap_ring.specs.declared.entries.Offered.{Offered}
 use Rattle.gap_ring.specs.declared.entries.Taken.{Taken}
-use Rattle.gap_ring.specs.declared.view.Did.{Did}
 use Rattle.gap_ring.specs.declared.view.Did.TheVariants as did
-use Rattle.gap_ring.specs.declared.view.GapWords.{GapWords}
 use Rattle.gap_ring.specs.declared.view.Putting.{Putting}
 use Rattle.gap_ring.specs.declared.view.Taking.{Taking}
 use Rattle.gap_ring.specs.declared.view.View.{View}
-use Rattle.gap_ring.specs.Offers.{put_of, trailing, gap_of, AreOffers}
+use Rattle.gap_ring.specs.Offers.{put_of, trailing, gap_of, IsHeadBy, AreOffers}
 use Rattle.gap_ring.specs.Turns.{items_taken, IsStartBy, AreTaken}
-use Rattle.gap_ring.specs.Rule.{head_word, tail_word, end_word, attach_word, first_word, last_word, versions_word, end_of, gap_words_of}
-use Rattle.gap_ring.specs.Rule.{Words, PutRule, TakeRule, Slots, EndRule, KeptBy, Kept}
-use Rattle.gap_ring.specs.Steps.{Sat, IsNext, IsAll, end_loaded, saw_end, tail_loaded, item_waits, none_waits, all_taken, saw_tail, gap_word, saw_gap}
+use Rattle.gap_ring.specs.Rule.{head_word, tail_word, end_word, attach_word, first_word, last_word, versions_word, gap_words_of}
+use Rattle.gap_ring.specs.Rule.{PutRule, TakeRule, Slots, EndRule, KeptBy, Kept}
+use Rattle.gap_ring.specs.Steps.{Sat, TakerLoads, TakerStores, did_take, IsAll, end_loaded, saw_end, tail_loaded, saw_tail, gap_word, saw_gap}
 use Rattle.gap_ring.specs.Steps.{taken_now, head_stored, stored_head, attach_stored, stored_attach, HaveMet, learned}
 use Rattle.gap_ring.proofs.PlaceLaws.{all_right, head_same}
 use Rattle.gap_ring.specs.May.{IsGapWord, MayTurn, MayTake, MayGive}
@@ -32,7 +30,7 @@ use Rattle.gap_ring.proofs.SeatLaws.{seats_after_take}
 use Rattle.gap_ring.proofs.WordLaws as words
 use Rattle.gap_ring.proofs.SlotLaws.{slots_same, head_full, head_taken, head_given}
 use Rattle.gap_ring.proofs.NextLaws.{next_is}
-use Rattle.gap_ring.proofs.PutLaws.{start_by_later}
+use Rattle.gap_ring.proofs.PutLaws.{start_by_later, head_later}
 
 abbrev Board : Type 0
 Board = State (Option Item) View
@@ -72,7 +70,7 @@ module _ (bus : ℕ) (s : Board) (id : ℕ) (v : View) (p : Putting) (r : KeptBy
       }
 
 -- the end word
-pub sees_end : (bus slots id : ℕ) (me : Sat) → me.0.takes ≡ true → Allows (Kept bus) slots id me end_word (λ n. n) (saw_end (step slots end_word 0 0 none) me)
+pub sees_end : (bus slots id : ℕ) (me : Sat) → me.0.takes ≡ true → Allows (Kept bus) slots id me end_word (λ n. n) (TakerLoads saw_end (step slots end_word 0 0 none) me)
 sees_end bus slots id me may s kept deep at below =
     let own = taker_own bus s id me.0 kept at may in
     let p : Putting = own.0 in
@@ -89,13 +87,13 @@ sees_end bus slots id me may s kept deep at below =
       keeps,
       tt,
       record { p = p; t = t'; by = quiet bus s id me.0 p r at may end_word t' refl refl refl refl end },
-      (refl, refl),
+      ((refl, refl), refl),
     )
 
 -- a gap word
 gap_load : (bus slots id word : ℕ) (me : Sat) → me.0.takes ≡ true
     → ((s : Board) (p : Putting) → KeptBy bus s p me.0.taking → slice_index s.words word ≡ gap_word word p.gap)
-    → Allows (Kept bus) slots id me word (λ n. n) (saw_gap (step slots word 0 0 none) me)
+    → Allows (Kept bus) slots id me word (λ n. n) (TakerLoads saw_gap (step slots word 0 0 none) me)
 gap_load bus slots id word me may is s kept deep at below =
     let own = taker_own bus s id me.0 kept at may in
     let p : Putting = own.0 in
@@ -109,23 +107,26 @@ gap_load bus slots id word me may is s kept deep at below =
       tt,
       record { p = p; t = t'; by = quiet bus s id me.0 p r at may word t' refl refl refl refl end },
       (
+        (
+          refl,
+          refl,
+          λ done. let d = r.end.done_is done in
+              is s p r ∙ (ap (gap_word word) (r.end.gap_is d.0) ∙ ap (λ os. gap_word word (gap_words_of (gap_of (trailing os)))) (sym d.1)),
+        ),
         refl,
-        refl,
-        λ done. let d = r.end.done_is done in
-            is s p r ∙ (ap (gap_word word) (r.end.gap_is d.0) ∙ ap (λ os. gap_word word (gap_words_of (gap_of (trailing os)))) (sym d.1)),
       ),
     )
 
-pub sees_first : (bus slots id : ℕ) (me : Sat) → me.0.takes ≡ true → Allows (Kept bus) slots id me first_word (λ n. n) (saw_gap (step slots first_word 0 0 none) me)
+pub sees_first : (bus slots id : ℕ) (me : Sat) → me.0.takes ≡ true → Allows (Kept bus) slots id me first_word (λ n. n) (TakerLoads saw_gap (step slots first_word 0 0 none) me)
 sees_first bus slots id me may = gap_load bus slots id first_word me may (λ s p r. r.words.first_is)
 
-pub sees_last : (bus slots id : ℕ) (me : Sat) → me.0.takes ≡ true → Allows (Kept bus) slots id me last_word (λ n. n) (saw_gap (step slots last_word 0 0 none) me)
+pub sees_last : (bus slots id : ℕ) (me : Sat) → me.0.takes ≡ true → Allows (Kept bus) slots id me last_word (λ n. n) (TakerLoads saw_gap (step slots last_word 0 0 none) me)
 sees_last bus slots id me may = gap_load bus slots id last_word me may (λ s p r. r.words.last_is)
 
-pub sees_versions : (bus slots id : ℕ) (me : Sat) → me.0.takes ≡ true → Allows (Kept bus) slots id me versions_word (λ n. n) (saw_gap (step slots versions_word 0 0 none) me)
+pub sees_versions : (bus slots id : ℕ) (me : Sat) → me.0.takes ≡ true → Allows (Kept bus) slots id me versions_word (λ n. n) (TakerLoads saw_gap (step slots versions_word 0 0 none) me)
 sees_versions bus slots id me may = gap_load bus slots id versions_word me may (λ s p r. r.words.versions_is)
 
-pub turns : (bus slots id n : ℕ) (me : Sat) → MayTurn n me.0 → Allows (Kept bus) slots id me attach_word (λ _. n) (λ _. stored_attach (step slots attach_word n 0 none) me n)
+pub turns : (bus slots id n : ℕ) (me : Sat) → MayTurn n me.0 → Allows (Kept bus) slots id me attach_word (λ _. n) (λ _. TakerStores stored_attach (step slots attach_word n 0 none) me n)
 turns bus slots id n me may s kept deep at below =
     let own = taker_own bus s id me.0 kept at may.may in
     let p : Putting = own.0 in
@@ -168,7 +169,7 @@ turns bus slots id n me may s kept deep at below =
           each_seat = seats_after_take r.putter r.taker p t s.views r.each_seat id me.0 t' at may.may;
         };
       },
-      (refl, refl),
+      ((refl, refl), refl),
     )
 
 match_true : (b : Bool) (P Q : Type 0) → b ≡ true → P → MatchBool b P Q
@@ -186,7 +187,7 @@ module _ (bus slots id : ℕ) (me : Sat) (may : MayTake me.0) (bare : me.1 ≡ [
   n = slice_index s.words tail_word
 
   abbrev then_is : Sat → Type 0
-  then_is = saw_tail (step slots tail_word 0 0 none) me n
+  then_is = TakerLoads saw_tail (step slots tail_word 0 0 none) me n
 
   abbrev Result : Type 0
   Result = (w : View) × (a : Act (Option Item)) × Valid s.homes me.1 a × Kept bus (stepped s tail_word n id me.1 w a) × then_is (w, carried_after me.1 a)
@@ -206,7 +207,7 @@ module _ (bus slots id : ℕ) (me : Sat) (may : MayTake me.0) (bare : me.1 ≡ [
         keeps,
         tt,
         record { p = p; t = t'; by = quiet bus s id me.0 p r at may.may tail_word t' refl refl refl refl end },
-        match_true (n == length t.taken) _ _ (eq-eqb n (length t.taken) same) (match_true (t.end == 0) _ _ (eq-eqb t.end 0 open_) (refl, refl)),
+        (match_true (n == length t.taken) _ _ (eq-eqb n (length t.taken) same) (match_true (t.end == 0) _ _ (eq-eqb t.end 0 open_) (refl, refl)), refl),
       )
 
   -- none waits, and the ring has ended
@@ -235,8 +236,11 @@ module _ (bus slots id : ℕ) (me : Sat) (may : MayTake me.0) (bare : me.1 ≡ [
         keeps,
         tt,
         record { p = p; t = t'; by = quiet bus s id me.0 p r at may.may tail_word t' refl refl refl refl end },
-        match_true (n == length t.taken) _ _ (eq-eqb n (length t.taken) same)
-            (match_false (t.end == 0) _ _ (ne_eqb t.end 0 ended) (known, refl, refl, is_all)),
+        (
+          match_true (n == length t.taken) _ _ (eq-eqb n (length t.taken) same)
+              (match_false (t.end == 0) _ _ (ne_eqb t.end 0 ended) (known, refl, refl, is_all, λ d. sym (r.end.done_is d).1)),
+          refl,
+        ),
       )
 
   -- an item waits
@@ -280,8 +284,11 @@ module _ (bus slots id : ℕ) (me : Sat) (may : MayTake me.0) (bare : me.1 ≡ [
             each_seat = seats_after_take r.putter r.taker p t s.views r.each_seat id me.0 t' at may.may;
           };
         },
-        match_false (n == length t.taken) _ _ (ne_eqb n (length t.taken) other)
-            (x, refl, slot, next_is bus (length s.homes) p r.put t x more r.bus_is h.split, let c = counts in let w : length r.waiting ≡ length (x ∷ more) = ap length is in omega arith),
+        (
+          match_false (n == length t.taken) _ _ (ne_eqb n (length t.taken) other)
+              (x, refl, slot, next_is bus (length s.homes) p r.put t x more r.bus_is h.split, let c = counts in let w : length r.waiting ≡ length (x ∷ more) = ap length is in omega arith),
+          refl,
+        ),
       )
 
   by_waiting : (ws : List Item) → r.waiting ≡ ws → n ≢ length t.taken → Result
@@ -296,7 +303,7 @@ module _ (bus slots id : ℕ) (me : Sat) (may : MayTake me.0) (bare : me.1 ≡ [
       (λ (other : n ≢ length t.taken). by_waiting r.waiting refl other)
       (cases_eq n (length t.taken))
 
-pub sees_tail : (bus slots id : ℕ) (me : Sat) → MayTake me.0 → me.1 ≡ [] → Allows (Kept bus) slots id me tail_word (λ n. n) (saw_tail (step slots tail_word 0 0 none) me)
+pub sees_tail : (bus slots id : ℕ) (me : Sat) → MayTake me.0 → me.1 ≡ [] → Allows (Kept bus) slots id me tail_word (λ n. n) (TakerLoads saw_tail (step slots tail_word 0 0 none) me)
 sees_tail bus slots id me may bare s kept deep at below =
     let own = taker_own bus s id me.0 kept at may.may in
     tail_seen bus slots id me may bare s deep at own.0 own.1
@@ -376,19 +383,19 @@ module _ (bus slots id n : ℕ) (me : Sat) (x : Item) (may : MayGive x n me.0) (
       record { p = p; t = new; by = subst (λ homes. KeptBy bus (record { words = set s.words head_word n; homes = homes; views = set s.views id (record me.0 { taking = new }) }) p new) (sym back) by }
 
 pub gives_head : (bus slots id n : ℕ) (me : Sat) (x : Item) → MayGive x n me.0 → me.1 ≡ (length me.0.taking.taken % slots, None) ∷ []
-    → Allows (Kept bus) slots id me head_word (λ _. n) (λ _. stored_head (step slots head_word n 0 none) me n)
+    → Allows (Kept bus) slots id me head_word (λ _. n) (λ _. TakerStores stored_head (step slots head_word n 0 none) me n)
 gives_head bus slots id n me x may held s kept deep at below =
     let own = taker_own bus s id me.0 kept at may.may in (
       record me.0 { taking = head_stored n me.0.taking },
       gives,
       tt,
       given_by bus slots id n me x may held s deep at own.0 own.1 own.1.waiting refl,
-      (refl, ap rest held),
+      ((refl, ap rest held), refl),
     )
 
 -- what both know, once one seat is both
 pub learns : (bus slots id : ℕ) (me : Sat) → me.0.puts ≡ true → me.0.takes ≡ true
-    → Allows (Kept bus) slots id me head_word (λ n. n) (learned (step slots head_word 0 0 none) me)
+    → Allows (Kept bus) slots id me head_word (λ n. n) (TakerLoads (learned bus) (step slots head_word 0 0 none) me)
 learns bus slots id me puts may s kept deep at below =
     let own = taker_own bus s id me.0 kept at may in
     let p : Putting = own.0 in
@@ -396,26 +403,32 @@ learns bus slots id me puts may s kept deep at below =
     let t : Taking = me.0.taking in
     let mine : me.0.putting ≡ p = ((r.each_seat id me.0 at).0 puts).1 in
     let end : EndRule p t = r.end in
+    let after : EndRule p (did_take t (did.Loaded head_word (slice_index s.words head_word))) = record { no_lead = end.no_lead; gap_is = end.gap_is; fits = end.fits; end_seen = end.end_seen; done_is = end.done_is } in
     let higher = r.take.attach_seen in
-    let met : HaveMet slots p t = record {
-      offered = subst (λ b. AreOffers b slots p.offers) (sym r.bus_is) (subst (λ k. AreOffers bus k p.offers) deep r.put.offered);
+    let n : ℕ = slice_index s.words head_word in
+    let t' : Taking = did_take t (did.Loaded head_word n) in
+    let met : HaveMet bus slots p t' = record {
+      bus_is = r.bus_is;
+      offered = subst (λ k. AreOffers bus k p.offers) deep r.put.offered;
       put_is = r.put.put_is;
       waiting = r.waiting;
       split = r.take.split;
+      room = subst (λ k. length r.waiting ≤ k) deep r.take.room;
       words = r.take.taken;
       low = All-weaker (λ (o : Offered). o.attach ≤ p.attach) (λ o. o.attach ≤ t.attach) (λ o low. omega arith) p.offers r.put.attach_high;
+      heads = All-weaker (IsHeadBy p.head) (IsHeadBy (length t.taken)) (λ o h. head_later p.head (length t.taken) o r.take.head_seen h) p.offers r.put.head_high;
       done = λ d. ((r.end.done_is d).1, (r.end.done_is d).2);
     } in (
-      me.0,
+      record me.0 { taking = t' },
       keeps,
       tt,
-      record { p = p; t = t; by = quiet bus s id me.0 p r at may head_word t refl refl refl refl end },
-      (refl, refl, subst (λ q. HaveMet slots q t) (sym mine) met, r.words.head_is),
+      record { p = p; t = t'; by = quiet bus s id me.0 p r at may head_word t' refl refl refl refl after },
+      ((refl, refl, subst (λ q. HaveMet bus slots q t') (sym mine) met, r.words.head_is), refl),
     )
 
-pub sees_gap : (bus slots id word : ℕ) (me : Sat) → me.0.takes ≡ true → IsGapWord word → Allows (Kept bus) slots id me word (λ n. n) (saw_gap (step slots word 0 0 none) me)
+pub sees_gap : (bus slots id word : ℕ) (me : Sat) → me.0.takes ≡ true → IsGapWord word → Allows (Kept bus) slots id me word (λ n. n) (TakerLoads saw_gap (step slots word 0 0 none) me)
 sees_gap bus slots id word me may which =
-    let P : ℕ → Type 0 = λ w. Allows (Kept bus) slots id me w (λ n. n) (saw_gap (step slots w 0 0 none) me) in
+    let P : ℕ → Type 0 = λ w. Allows (Kept bus) slots id me w (λ n. n) (TakerLoads saw_gap (step slots w 0 0 none) me) in
     ⊎_elim
     (λ (e : word ≡ first_word). subst P (sym e) (sees_first bus slots id me may))
     (λ (o : (word ≡ last_word) ⊎ (word ≡ versions_word)).
@@ -427,11 +440,11 @@ sees_gap bus slots id word me may which =
 
 -- a store of the head, once the slot in hand has nothing
 pub head_ready : (bus slots id n k : ℕ) (me me' : Sat) (x : Item) → MayGive x n me.0 → k ≡ length me.0.taking.taken % slots → me.1 ≡ (length me.0.taking.taken % slots, Some x) ∷ []
-    → me' ≡ (me.0, (k, None) ∷ rest me.1) → Allows (Kept bus) slots id me' head_word (λ _. n) (λ _. stored_head (step slots head_word n 0 none) me' n)
+    → me' ≡ (me.0, (k, None) ∷ rest me.1) → Allows (Kept bus) slots id me' head_word (λ _. n) (λ _. TakerStores stored_head (step slots head_word n 0 none) me' n)
 head_ready bus slots id n k me me' x may place held is =
     let empty : Sat = (me.0, (length me.0.taking.taken % slots, None) ∷ []) in
     let same : me' ≡ empty = is ∙ (ap (λ (l : List (ℕ × Option Item)). (me.0, (k, None) ∷ rest l)) held ∙ ap (λ (m : ℕ). (me.0, (m, None) ∷ [])) place) in
-    subst (λ (m : Sat). Allows (Kept bus) slots id m head_word (λ _. n) (λ _. stored_head (step slots head_word n 0 none) m n)) (sym same)
+    subst (λ (m : Sat). Allows (Kept bus) slots id m head_word (λ _. n) (λ _. TakerStores stored_head (step slots head_word n 0 none) m n)) (sym same)
     (gives_head bus slots id n empty x may refl)
 
 -- the item taken is the one that was in hand

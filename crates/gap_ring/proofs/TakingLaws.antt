@@ -1,8 +1,8 @@
 -- What a take leaves and answers, and what a turn leaves.
-use Rattle.std.proofs.Common.{◌≡◌, ◌≢◌, ◌⊎◌, ℕ, zero, suc, ◌+◌, ◌-◌, ◌*◌, ◌/◌, ◌%◌, ◌<◌, ◌≤◌, ◌==◌, ◌||◌, ◌&&◌, nat_lt, Bool, true, false, cond, true≢false}
-use Rattle.std.proofs.Common.{List, [], ◌∷◌, ◌++◌, length, get_or, map, filter, All, MatchBool, Option, Some, None, refl, sym, ap, ◌∙◌, subst}
-use Rattle.std.proofs.Common.{arith, inl, inr, ⊎_elim, append-nil, length-append, eq-eqb, ne_eqb, lt-ltb, le-ltb}
-use Rattle.std.proofs.lemmas.Bool.{cases_Bool, cases_eq, cond-true, cond-false, MatchBool-at_true, MatchBool-at_false, or_left, or_right, and_left, and_right, and_from}
+use Rattle.std.proofs.Common.{◌≡◌, ◌≢◌, ℕ, ◌+◌, ◌-◌, ◌/◌, ◌%◌, ◌<◌, ◌≤◌, ◌==◌, ◌||◌, ◌&&◌, nat_lt, Bool, true, false, cond, true≢false}
+use Rattle.std.proofs.Common.{List, [], ◌∷◌, ◌++◌, length, get_or, filter, All, MatchBool, Option, Some, None, refl, sym, ap, ◌∙◌, subst}
+use Rattle.std.proofs.Common.{arith, ⊎_elim, append_assoc, length-append, eq-eqb, ne_eqb, lt-ltb, le-ltb}
+use Rattle.std.proofs.lemmas.Bool.{cases_Bool, cases_eq, cond-true, cond-false, MatchBool-at_true, MatchBool-at_false}
 use Rattle.std.proofs.lemmas.Nat.{div-mul-add, mod-mul-add}
 use Rattle.std.proofs.lemmas.Option.{same_Some}
 use Rattle.std.proofs.lemmas.List.{map-append}
@@ -12,28 +12,47 @@ use mathlib.Core.Option.{none}
 use Rattle.atomic_table.specs.Table.{step}
 use Rattle.bench_model.specs.declared.reading.Missed.{Missed}
 use Rattle.bench_model.specs.declared.reading.Item.{Item}
-use Rattle.bench_model.specs.declared.reading.Item.TheVariants as item
 use Rattle.gap_ring.specs.declared.answers.Take.{Take}
 use Rattle.gap_ring.specs.declared.answers.Take.TheVariants as take
 use Rattle.gap_ring.specs.declared.entries.Offered.{Offered}
 use Rattle.gap_ring.specs.declared.entries.Taken as entries
 use Rattle.gap_ring.specs.declared.progress.Progress.{Progress}
+use Rattle.gap_ring.specs.declared.view.Did.{Did}
 use Rattle.gap_ring.specs.declared.view.Did.TheVariants as did
 use Rattle.gap_ring.specs.declared.view.GapWords.{GapWords}
 use Rattle.gap_ring.specs.declared.view.Taking.{Taking}
 use Rattle.gap_ring.specs.declared.view.View.{View}
 use Rattle.gap_ring.specs.Offers.{IsAttached, turn_of, trailing, gap_of, put_of, last_version_of, AreOffers}
 use Rattle.gap_ring.specs.Turns.{items_taken, starts_turn, from_start, given, AreTaken, next_after, next_of, is_begun, IsGapTo, ending}
-use Rattle.gap_ring.specs.Rule.{gap_words_of, tail_word, first_word, last_word, versions_word}
+use Rattle.gap_ring.specs.Rule.{gap_words_of, most_offers, version_limit, head_word, tail_word, end_word, first_word, last_word, versions_word}
 use Rattle.gap_ring.specs.Steps.{Sat, did_take, end_loaded, tail_loaded, item_waits, none_waits, all_taken, saw_tail, saw_gap, gap_word, head_stored, attach_stored, record_number, IsNext, IsAll}
-use Rattle.gap_ring.specs.Takes.{gap_by, took, gap_loaded, found_end, Taken, TakeMade}
+use Rattle.gap_ring.specs.Takes.{TookItem, TakeMade, TurnMade, gap_by}
 use Rattle.gap_ring.specs.Ends.{TakerRests}
-use Rattle.gap_ring.specs.TakerView.{TurnMade}
 use Rattle.gap_ring.proofs.PlaceLaws.{filter_none}
 use Rattle.gap_ring.proofs.TurnLaws.{unstarted, ended_gap}
 
 abbrev Entry : Type 0
 Entry = entries.Taken
+
+-- what is known after an item, and after the end, was found
+abbrev took : Taking → Item → (end tail : ℕ) → Taking
+took t x end tail = head_stored (length t.taken + 1) (tail_loaded tail (record (end_loaded end t) { hand = Some x }))
+
+abbrev gap_loaded : GapWords → Taking → Taking
+gap_loaded w t = did_take (did_take (did_take t (did.Loaded first_word w.first)) (did.Loaded last_word w.last)) (did.Loaded versions_word w.versions)
+
+abbrev found_end : Taking → ℕ → List Offered → Taking
+found_end t end known = tail_loaded (length t.taken) (record (end_loaded end t) { done = true; known = known })
+
+three_more : (l : List Did) (a b c : Did) → ((l ++ a ∷ []) ++ b ∷ []) ++ c ∷ [] ≡ l ++ a ∷ b ∷ c ∷ []
+three_more l a b c = append_assoc (l ++ a ∷ []) (b ∷ []) (c ∷ []) ∙ append_assoc l (a ∷ []) (b ∷ c ∷ [])
+
+five_more : (l : List Did) (a b c d e : Did) → ((((l ++ a ∷ []) ++ b ∷ []) ++ c ∷ []) ++ d ∷ []) ++ e ∷ [] ≡ l ++ a ∷ b ∷ c ∷ d ∷ e ∷ []
+five_more l a b c d e =
+    append_assoc (((l ++ a ∷ []) ++ b ∷ []) ++ c ∷ []) (d ∷ []) (e ∷ [])
+    ∙ (append_assoc ((l ++ a ∷ []) ++ b ∷ []) (c ∷ []) (d ∷ e ∷ [])
+    ∙ (append_assoc (l ++ a ∷ []) (b ∷ []) (c ∷ d ∷ e ∷ [])
+    ∙ append_assoc l (a ∷ []) (b ∷ c ∷ d ∷ e ∷ [])))
 
 abbrev in_turn : ℕ → Entry → Bool
 in_turn turn t = t.attach == turn
@@ -161,8 +180,8 @@ module _ (slots end tail : ℕ) (c : Progress) (x : Item) (m0 m1 m2 m3 : Sat) (h
   same_item : waited.0 ≡ x
   same_item = same_Some waited.0 x (ap (λ (v : View). v.taking.hand) (sym waited.1) ∙ h.hand)
 
-  pub low_number : record_number x < 4611686018427387904
-  low_number = subst (λ (y : Item). record_number y < 4611686018427387904) same_item waited.3.low
+  pub low_number : record_number x < most_offers
+  low_number = subst (λ (y : Item). record_number y < most_offers) same_item waited.3.low
 
   pub head_low : c.head < tail
   head_low = let e = h.rests.head_is in let w = waited.4 in omega arith
@@ -179,8 +198,23 @@ module _ (slots end tail : ℕ) (c : Progress) (x : Item) (m0 m1 m2 m3 : Sat) (h
       ∙ (ap (λ (y : Item). record m0.0 { taking = head_stored (c.head + 1) (tail_loaded tail (record (end_loaded end t) { hand = Some y })) }) same_item
       ∙ ap (λ (n : ℕ). record m0.0 { taking = head_stored (n + 1) (tail_loaded tail (record (end_loaded end t) { hand = Some x })) }) h.rests.head_is))
 
-  pub taken_here : Taken t m3.0.taking x
-  taken_here = (next_here, (end, (tail, ap (λ (v : View). v.taking) view_here, λ e. h.other (e ∙ sym h.rests.head_is))))
+  taken_here : TookItem t m3.0.taking x
+  taken_here =
+      let is : m3.0.taking ≡ took t x end tail = ap (λ (v : View). v.taking) view_here in
+      let head = h.rests.head_is in
+      let above = head_low in
+      record {
+        next = next_here;
+        taken_grows = ap (λ (u : Taking). u.taken) is;
+        same_turn = record { bus_same = ap (λ (u : Taking). u.bus) is; attach_same = ap (λ (u : Taking). u.attach) is };
+        same_end = record { done_same = ap (λ (u : Taking). u.done) is; known_same = ap (λ (u : Taking). u.known) is };
+        end = end;
+        tail = tail;
+        waits = omega arith;
+        steps_are =
+            ap (λ (u : Taking). u.steps) is
+            ∙ three_more t.steps (did.Loaded end_word end) (did.Loaded tail_word tail) (did.Stored head_word (length t.taken + 1));
+      }
 
   abbrev entry : Entry
   entry = record { item = x; attach = t.attach }
@@ -215,7 +249,7 @@ module _ (slots end tail : ℕ) (c : Progress) (x : Item) (m0 m1 m2 m3 : Sat) (h
     old_made is_none = (x, taken_here, ap (λ (v : View). given v.taking.taken t.attach) view_here ∙ goes_here.at_false is_none)
 
 -- the gap that is answered is that of the end
-gap_by_words : (gap : Option Missed) (next number : ℕ) (w : GapWords) → IsGapTo next number gap → w ≡ gap_words_of gap → last_version_of gap < 4294967296
+gap_by_words : (gap : Option Missed) (next number : ℕ) (w : GapWords) → IsGapTo next number gap → w ≡ gap_words_of gap → last_version_of gap < version_limit
     → cond (nat_lt next number) (Some (gap_by next number w)) None ≡ gap
 gap_by_words None next number w to words fits = cond-false (nat_lt next number) (Some (gap_by next number w)) None (le-ltb next number (omega arith))
 gap_by_words (Some m) next number w to words fits =
@@ -224,8 +258,8 @@ gap_by_words (Some m) next number w to words fits =
     let n2 = to.2 in
     let less : next < number = omega arith in
     let count : number - next ≡ m.count = omega arith in
-    let high : w.versions / 4294967296 ≡ m.first_version = ap (λ (u : GapWords). u.versions / 4294967296) words ∙ div-mul-add m.first_version 4294967296 m.last_version fits in
-    let low : w.versions % 4294967296 ≡ m.last_version = ap (λ (u : GapWords). u.versions % 4294967296) words ∙ mod-mul-add m.first_version 4294967296 m.last_version fits in
+    let high : w.versions / version_limit ≡ m.first_version = ap (λ (u : GapWords). u.versions / version_limit) words ∙ div-mul-add m.first_version version_limit m.last_version fits in
+    let low : w.versions % version_limit ≡ m.last_version = ap (λ (u : GapWords). u.versions % version_limit) words ∙ mod-mul-add m.first_version version_limit m.last_version fits in
     let a : w.first ≡ m.first_micros = ap (λ (u : GapWords). u.first) words in
     let b : w.last ≡ m.last_micros = ap (λ (u : GapWords). u.last) words in
     cond-true (nat_lt next number) (Some (gap_by next number w)) None (lt-ltb next number less)
@@ -233,7 +267,7 @@ gap_by_words (Some m) next number w to words fits =
 
 gap_answer : (slots number : ℕ) (t : Taking) (known : List Offered) (c : Progress) (v : View) (w : GapWords) → v.taking ≡ t → TakerRests c v → IsAttached t.attach
     → AreOffers t.bus slots known → AreTaken t.attach t.taken → All (λ o. o.attach ≤ t.attach) known → items_taken t.taken ≡ put_of known
-    → last_version_of (gap_of (trailing known)) < 4294967296 → length known ≡ number → w ≡ gap_words_of (gap_of (trailing known))
+    → last_version_of (gap_of (trailing known)) < version_limit → length known ≡ number → w ≡ gap_words_of (gap_of (trailing known))
     → cond (c.started && nat_lt c.next number) (Some (gap_by c.next number w)) None ≡ ending t.attach known
 gap_answer slots number t known c v w vt rests odd offered words low all fits count is =
     let begun : c.started ≡ is_begun (given t.taken t.attach) = rests.started_is ∙ ap (λ (u : Taking). is_begun (given u.taken u.attach)) vt in
@@ -253,6 +287,31 @@ gap_answer slots number t known c v w vt rests odd offered words low all fits co
     ap (λ (s : Bool). cond (s && nat_lt c.next number) (Some (gap_by c.next number w)) None) (begun ∙ ap is_begun e.0)
     ∙ sym e.1)
     (cases_eq (turn_of known) t.attach)
+
+-- nothing waited, and the ring goes on
+pub nothing_made : (slots end tail : ℕ) (c : Progress) (m0 m1 m2 : Sat) → TakerRests c m0.0 → m1 ≡ (record m0.0 { taking = end_loaded end m0.0.taking }, m0.1)
+    → saw_tail (step slots tail_word 0 0 none) m1 tail m2 → tail ≡ c.head → end ≡ 0 → TakeMade slots m0.0.taking m2.0.taking (take.Empty tail)
+nothing_made slots end tail c m0 m1 m2 rests first second same open_ =
+    let t : Taking = m0.0.taking in
+    let seen : Sat = (record m0.0 { taking = end_loaded end t }, m0.1) in
+    let count : tail ≡ length t.taken = same ∙ rests.head_is in
+    let inner : MatchBool (end == 0) (none_waits (step slots tail_word 0 0 none) seen tail m2) (all_taken (step slots tail_word 0 0 none) seen tail m2) =
+    MatchBool-at_true {b = tail == length t.taken} (MatchBool (end == 0) (none_waits (step slots tail_word 0 0 none) seen tail m2) (all_taken (step slots tail_word 0 0 none) seen tail m2))
+    (item_waits (step slots tail_word 0 0 none) seen tail m2) (eq-eqb tail (length t.taken) count)
+    (subst (λ (m : Sat). saw_tail (step slots tail_word 0 0 none) m tail m2) first second) in
+    let none_here : none_waits (step slots tail_word 0 0 none) seen tail m2 =
+    MatchBool-at_true {b = end == 0} (none_waits (step slots tail_word 0 0 none) seen tail m2) (all_taken (step slots tail_word 0 0 none) seen tail m2) (eq-eqb end 0 open_) inner in
+    let is : m2.0.taking ≡ tail_loaded tail (end_loaded end t) = ap (λ (v : View). v.taking) none_here.0 in
+    record {
+      all_taken = count;
+      taken_same = ap (λ (u : Taking). u.taken) is;
+      same_turn = record { bus_same = ap (λ (u : Taking). u.bus) is; attach_same = ap (λ (u : Taking). u.attach) is };
+      same_end = record { done_same = ap (λ (u : Taking). u.done) is; known_same = ap (λ (u : Taking). u.known) is };
+      steps_are =
+          ap (λ (u : Taking). u.steps) is
+          ∙ (append_assoc t.steps (did.Loaded end_word end ∷ []) (did.Loaded tail_word tail ∷ [])
+          ∙ ap (λ (n : ℕ). t.steps ++ did.Loaded end_word n ∷ did.Loaded tail_word tail ∷ []) open_);
+    }
 
 -- the end was found
 pub record Found (slots end tail first last versions : ℕ) (c : Progress) (m0 m1 m2 m3 m4 m5 : Sat) : Type 0 where
@@ -322,28 +381,47 @@ module _ (slots end tail first last versions : ℕ) (c : Progress) (m0 m1 m2 m3 
       let one_more : end ≡ end - 1 + 1 = omega (arith, all.number) in
       let count : length known ≡ end - 1 = omega (arith, all.number) in
       let answer = gap_answer slots (end - 1) told known c m0.0 words_seen refl h.rests h.odd all.offered all.words all.low all.all_taken all.fits count words_are in
+      let kept : told.done ≡ true → known ≡ told.known = found.4 in
       let place : at_end ≡ found_end told (end - 1 + 1) known =
       ap (λ (n : ℕ). tail_loaded n (record (end_loaded end told) { done = true; known = known })) (h.same ∙ h.rests.head_is)
-      ∙ ap (λ (n : ℕ). found_end told n known) one_more in (
-        known,
-        subst (λ (n : ℕ). IsAll slots (end_loaded n told) known) one_more all,
-        count,
-        is ∙ answer,
-        (words_seen, fifth_taking ∙ ap (gap_loaded words_seen) place),
-      )
+      ∙ ap (λ (n : ℕ). found_end told n known) one_more in
+      let now : m5.0.taking ≡ gap_loaded gap_words (found_end told (end - 1 + 1) known) =
+      fifth_taking ∙ (ap (gap_loaded words_seen) place ∙ ap (λ (w : GapWords). gap_loaded w (found_end told (end - 1 + 1) known)) words_are) in
+      record {
+        known = known;
+        offered = all.offered;
+        all_taken = all.all_taken;
+        words = all.words;
+        low = all.low;
+        number_is = sym count;
+        gap_is = is ∙ answer;
+        done_now = ap (λ (u : Taking). u.done) now;
+        known_now = ap (λ (u : Taking). u.known) now;
+        known_before = kept;
+        taken_same = ap (λ (u : Taking). u.taken) now;
+        same_turn = record { bus_same = ap (λ (u : Taking). u.bus) now; attach_same = ap (λ (u : Taking). u.attach) now };
+        steps_are =
+            ap (λ (u : Taking). u.steps) now
+            ∙ five_more told.steps (did.Loaded end_word (end - 1 + 1)) (did.Loaded tail_word (length told.taken)) (did.Loaded first_word gap_words.first)
+            (did.Loaded last_word gap_words.last) (did.Loaded versions_word gap_words.versions);
+      }
 
 -- a take leaves the turn as it is
 pub turn_kept : (slots : ℕ) (t t' : Taking) (answer : Take) → TakeMade slots t t' answer → t'.attach ≡ t.attach
-turn_kept slots t t' (take.Item x) h = ap (λ (u : Taking). u.attach) h.0.1.1.1
-turn_kept slots t t' take.Old h = ap (λ (u : Taking). u.attach) h.1.1.1.1
-turn_kept slots t t' (take.Empty tail) h = ap (λ (u : Taking). u.attach) h.0
-turn_kept slots t t' (take.Ended number gap) h = ap (λ (u : Taking). u.attach) h.4.1
+turn_kept slots t t' (take.Item x) h = h.0.same_turn.attach_same
+turn_kept slots t t' take.Old h = h.1.same_turn.attach_same
+turn_kept slots t t' (take.Empty tail) h = h.same_turn.attach_same
+turn_kept slots t t' (take.Ended number gap) h = h.same_turn.attach_same
 
 pub turn_made : (c : Progress) (n : ℕ) (v v' : View) → TakerRests c v → n ≡ c.attach + 1 → v' ≡ record v { taking = attach_stored n v.taking } → TurnMade v.taking v'.taking
 turn_made c n v v' h is view =
     let next : n ≡ v.taking.attach + 1 = let at = h.attach_is in omega arith in
     let t' : v'.taking ≡ attach_stored (v.taking.attach + 1) v.taking = ap (λ (u : View). u.taking) view ∙ ap (λ (k : ℕ). attach_stored k v.taking) next in
     record {
-      is = t';
-      anew = not_begun (given v'.taking.taken v'.taking.attach) (sym (turned c n v v' h is view).started_is);
+      attach_next = ap (λ (u : Taking). u.attach) t';
+      taken_same = ap (λ (u : Taking). u.taken) t';
+      same_end = record { done_same = ap (λ (u : Taking). u.done) t'; known_same = ap (λ (u : Taking). u.known) t' };
+      bus_same = ap (λ (u : Taking). u.bus) t';
+      steps_are = ap (λ (u : Taking). u.steps) t';
+      given_anew = not_begun (given v'.taking.taken v'.taking.attach) (sym (turned c n v v' h is view).started_is);
     }

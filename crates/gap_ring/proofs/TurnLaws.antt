@@ -1,8 +1,8 @@
 -- What was given in a turn that lasts to the end is the group of that turn, whole.
-use Rattle.std.proofs.Common.{◌≡◌, ◌≢◌, ◌⊎◌, ℕ, zero, suc, ◌+◌, ◌-◌, ◌%◌, ◌<◌, ◌≤◌, ◌==◌, Bool, true, false, cond, List, [], ◌∷◌, ◌++◌}
-use Rattle.std.proofs.Common.{length, get_or, map, slice_get, flat_map, filter, All, AllPairs, Some, None, refl, sym, ap, ◌∙◌, subst}
-use Rattle.std.proofs.Common.{arith, append-nil, append_assoc, inl, inr, ⊎_elim, eq-eqb, ne_eqb}
-use Rattle.std.proofs.lemmas.Bool.{cases_eq, cond-true, cond-false}
+use Rattle.std.proofs.Common.{◌≡◌, ◌≢◌, ℕ, ◌+◌, ◌-◌, ◌%◌, ◌<◌, ◌≤◌, ◌==◌, Bool, true, false, List, [], ◌∷◌, ◌++◌}
+use Rattle.std.proofs.Common.{length, get_or, slice_get, flat_map, filter, All, None, refl, sym, ap, ◌∙◌, subst}
+use Rattle.std.proofs.Common.{arith, append-nil, ⊎_elim, eq-eqb, ne_eqb}
+use Rattle.std.proofs.lemmas.Bool.{cond-true, cond-false}
 use Rattle.std.proofs.lemmas.List.{map-append}
 use Rattle.std.proofs.lemmas.List.Concat.{flat_map-append}
 use Rattle.std.proofs.lemmas.List.Elements.{All-nil, All-cons, All-head, All-tail, All-append, All-weaker, All-filter, All-map, filter-append}
@@ -13,15 +13,15 @@ use Rattle.gap_ring.specs.declared.entries.Offered.{Offered}
 use Rattle.gap_ring.specs.declared.entries.Taken.{Taken}
 use Rattle.gap_ring.specs.Offers.{IsAttached, turn_of, since_put, trailing, gap_of, gap_item, put_of, AreOffers, readings_of}
 use Rattle.gap_ring.specs.Tiles.{Tiles, IsFrom}
-use Rattle.gap_ring.specs.Groups.{Group, group_items, Ended, IsGroup}
+use Rattle.gap_ring.specs.Groups.{Group, group_items, OfferWas, IsGroup}
 use Rattle.gap_ring.specs.Turns.{items_taken, starts_turn, from_start, given, IsStartBy, AreTaken, ending, IsWholeTurn, IsGapTo, next_of, is_begun}
-use Rattle.gap_ring.proofs.PlaceLaws.{filter_all, filter_none, all_get, all_left, all_right, all_pairs_right, all_pairs_head, all_unmap, all_flat_map, map_split, head_same, tail_same}
+use Rattle.gap_ring.proofs.PlaceLaws.{filter_all, filter_none, all_get, all_right, all_pairs_right, all_pairs_head, all_unmap, all_flat_map, map_split, head_same}
 use Rattle.gap_ring.proofs.OneMoreLaws.{turn_bounded}
 use Rattle.gap_ring.proofs.TileLaws.{tiles_append}
-use Rattle.gap_ring.proofs.GroupLaws.{Follows, LastGroup, Grouped, IsMissed, offers_grouped, all_missed, trailing_all, trailing_tiles, since_at, gap_is}
+use Rattle.gap_ring.proofs.GroupLaws.{Follows, LastGroup, IsMissed, offers_grouped, all_missed, trailing_all, trailing_tiles, since_at, gap_is}
 
 -- an item that does not begin this turn
-abbrev IsNoStart : ℕ → Item → Type 0
+abbrev pub IsNoStart : ℕ → Item → Type 0
 IsNoStart turn x = starts_turn turn x ≡ false
 
 from_is_no_start : (turn : ℕ) (os : List Offered) (x : Item) → IsFrom (readings_of os) x → IsNoStart turn x
@@ -31,7 +31,7 @@ from_is_no_start turn os (item.Gap bus m) h = refl
 from_is_no_start turn os (item.End bus number) h = absurd h
 
 -- no item of a group of another turn begins this one
-other_group : (turn bus : ℕ) (os : List Offered) (g : Group) → IsGroup os g → g.turn ≢ turn → All (IsNoStart turn) (group_items bus g)
+pub other_group : (turn bus : ℕ) (os : List Offered) (g : Group) → IsGroup os g → g.turn ≢ turn → All (IsNoStart turn) (group_items bus g)
 other_group turn bus os g h other =
     All-cons (IsNoStart turn) (item.Start bus g.number g.turn) g.items (ne_eqb g.turn turn other)
     (All-weaker (IsFrom (readings_of os)) (IsNoStart turn) (from_is_no_start turn os) g.items h.tiles.true_to)
@@ -41,7 +41,7 @@ other_groups turn bus os gs h below =
     all_flat_map (group_items bus) (IsNoStart turn) gs
     (λ k d less. let g : Group = get_or gs k d in let b = below k d less in other_group turn bus os g (h k d less) (λ e. omega arith))
 
-no_start : (turn : ℕ) (xs ys : List Item) → All (IsNoStart turn) xs → from_start turn (xs ++ ys) ≡ from_start turn ys
+pub no_start : (turn : ℕ) (xs ys : List Item) → All (IsNoStart turn) xs → from_start turn (xs ++ ys) ≡ from_start turn ys
 no_start turn [] ys h = refl
 no_start turn (x ∷ xs) ys h =
     cond-false (starts_turn turn x) (x ∷ (xs ++ ys)) (from_start turn (xs ++ ys)) (All-head (IsNoStart turn) x xs h)
@@ -50,7 +50,7 @@ no_start turn (x ∷ xs) ys h =
 no_start_at_all : (turn : ℕ) (xs : List Item) → All (IsNoStart turn) xs → from_start turn xs ≡ []
 no_start_at_all turn xs h = ap (from_start turn) (sym (append-nil xs)) ∙ no_start turn xs [] h
 
-abbrev in_turn : ℕ → Taken → Bool
+abbrev pub in_turn : ℕ → Taken → Bool
 in_turn turn t = t.attach == turn
 
 -- nothing was given in a turn of which no Start was taken
@@ -117,7 +117,7 @@ module _ (bus capacity turn : ℕ) (os : List Offered) (taken : List Taken) (off
 
   -- each number after the group is that of an offer refused in its turn
   rest_refused : (g : Group) (n : ℕ) → g.turn ≡ turn_of os → g.next + length (since_put os) ≡ length os → All (IsMissed (turn_of os)) (since_put os)
-      → g.next ≤ n → n < length os → (d : Offered) → Ended outcome.Refused os g.turn n
+      → g.next ≤ n → n < length os → (d : Offered) → OfferWas outcome.Refused os g.turn n
   rest_refused g n is next missing above below d =
       let k : ℕ = n - g.next in
       let place : g.next + k ≡ n = omega arith in

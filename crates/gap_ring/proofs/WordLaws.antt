@@ -1,13 +1,12 @@
 -- The words after a load and after a store.
-use Rattle.std.proofs.Common.{◌≡◌, ◌≢◌, ◌⊎◌, ℕ, zero, suc, ◌+◌, ◌<◌, ◌==◌, Bool, true, false, cond, List, [], ◌∷◌, ◌++◌, length, get_or, set, slice_index}
-use Rattle.std.proofs.Common.{refl, sym, ap, ◌∙◌, subst, arith, inl, inr, ⊎_elim, length-set, get_or-set_same, get_or-set_other, eq-eqb, ne_eqb}
+use Rattle.std.proofs.Common.{◌≡◌, ◌≢◌, ℕ, ◌<◌, ◌==◌, cond, List, length, set, slice_index}
+use Rattle.std.proofs.Common.{sym, ap, ◌∙◌, subst, arith, ⊎_elim, length-set, get_or-set_same, get_or-set_other, eq-eqb, ne_eqb}
 use Rattle.std.proofs.lemmas.Bool.{cases_eq, cond-true, cond-false}
 use Rattle.std.proofs.lemmas.List.{set-get_or}
 use Rattle.gap_ring.specs.declared.view.GapWords.{GapWords}
 use Rattle.gap_ring.specs.declared.view.Putting.{Putting}
 use Rattle.gap_ring.specs.declared.view.Taking.{Taking}
-use Rattle.gap_ring.specs.Rule.{Words, end_of, word_count, head_word, tail_word, end_word, attach_word, first_word, last_word, versions_word}
-use Rattle.gap_ring.specs.Steps.{with_gap_word}
+use Rattle.gap_ring.specs.Rule.{Words, end_of, head_word, tail_word, end_word, attach_word, first_word, last_word, versions_word}
 
 pub word_after : (ws : List ℕ) (i k n : ℕ) → i < length ws → slice_index (set ws i n) k ≡ cond (k == i) n (slice_index ws k)
 word_after ws i k n below =

@@ -1,8 +1,7 @@
 -- The two ends of a ring, by their seats: the seat is of the ring, and no slot is out with it.
-use Rattle.std.specs.Prelude.{◌≡◌, ℕ, ◌+◌, ◌*◌, ◌≤◌, Bool, true, false, List, [], length, All, Option, Some, None}
+use Rattle.std.specs.Prelude.{◌≡◌, ℕ, ◌*◌, ◌≤◌, true, false, [], length, All, Option, None}
 use Rattle.atomic_table.specs.Seated.{TableId}
 use Rattle.atomic_table.specs.declared.shared.Seat.{Seat}
-use Rattle.bench_model.specs.declared.reading.Missed.{Missed}
 use Rattle.bench_model.specs.declared.reading.Item.{Item}
 use Rattle.gap_ring.specs.declared.count.Count.{Count}
 use Rattle.gap_ring.specs.declared.progress.Progress.{Progress}
@@ -11,7 +10,7 @@ use Rattle.gap_ring.specs.declared.view.View.{View}
 use Rattle.gap_ring.specs.Offers.{turn_of, trailing, gap_of, put_of, missed_count}
 use Rattle.gap_ring.specs.declared.view.Did.TheVariants as did
 use Rattle.gap_ring.specs.Rule.{word_count, most_offers, head_word}
-use Rattle.gap_ring.specs.Steps.{did_put, with_slot}
+use Rattle.gap_ring.specs.Steps.{did_put, did_take, with_slot}
 
 abbrev pub Place : Type 0
 Place = Seat (Option Item) View
@@ -43,6 +42,10 @@ pub record TakerRests (c : Progress) (v : View) : Type 0 where
   pub started_is : c.started ≡ is_begun (given v.taking.taken v.taking.attach)
   pub next_is : c.next ≡ next_of (given v.taking.taken v.taking.attach)
   pub words_low : All (λ t. t.attach ≤ v.taking.attach) v.taking.taken
+
+-- both ends are one seat, which has loaded the head
+abbrev pub did_learn : ℕ → View → View
+did_learn n v = record v { taking = did_take v.taking (did.Loaded head_word n) }
 
 -- the putter has loaded the head again
 abbrev pub did_reach : ℕ → View → View

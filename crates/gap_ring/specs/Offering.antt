@@ -44,6 +44,7 @@ pub record OfferMade (bus slots : ℕ) (reading : Reading) (v v' : View) (answer
   pub steps_are : v'.putting.steps ≡ v.putting.steps ++ more
   pub are_steps : AreStepsBy entry entry.outcome more
   pub still_open : v'.putting.ended ≡ v.putting.ended
+  pub gap_same : v'.putting.gap ≡ v.putting.gap
 
 -- the view after the items of a record were put: the record alone, or what goes before it, the head, and the record
 abbrev pub one_put : Reading → ℕ → View → View

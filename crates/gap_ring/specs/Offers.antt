@@ -103,6 +103,10 @@ slots_free capacity head tail = capacity - (tail - head)
 abbrev pub IsHeadOf : ℕ → ℕ → ℕ → Type 0
 IsHeadOf capacity tail head = (head ≤ tail) × (tail ≤ head + capacity)
 
+-- the head that an offer loaded, where it loaded one, is no more than this
+abbrev pub IsHeadBy : ℕ → Offered → Type 0
+IsHeadBy n o = (head : ℕ) → o.head ≡ Some head → head ≤ n
+
 -- how an offer ends, by the words that it loaded: away exactly where no taker is attached, and of the others refused
 -- exactly where fewer slots are free than it needs
 abbrev pub Ends : ℕ → (attach : ℕ) → (head : Option ℕ) → (tail needed : ℕ) → Outcome → Type 0

@@ -1,6 +1,6 @@
 -- The rule of a ring: how the words and the slots of its table stand to what was offered, put and taken. It holds
 -- between any two steps.
-use Rattle.std.specs.Prelude.{◌≡◌, ◌⊎◌, ℕ, ◌+◌, ◌*◌, ◌^◌, ◌%◌, ◌<◌, ◌≤◌, Bool, true, false, cond, List, [], ◌∷◌, ◌++◌, length, slice_index, slice_get}
+use Rattle.std.specs.Prelude.{◌≡◌, ◌⊎◌, ℕ, ◌+◌, ◌*◌, ◌^◌, ◌%◌, ◌<◌, ◌≤◌, true, false, cond, List, [], ◌++◌, length, slice_index, slice_get}
 use Rattle.std.specs.Prelude.{All, Option, Some, None}
 use mathlib.Core.Option.{some}
 use mathlib.Core.Option as maybe
@@ -13,7 +13,7 @@ use Rattle.gap_ring.specs.declared.view.GapWords.{GapWords}
 use Rattle.gap_ring.specs.declared.view.Putting.{Putting}
 use Rattle.gap_ring.specs.declared.view.Taking.{Taking}
 use Rattle.gap_ring.specs.declared.view.View.{View}
-use Rattle.gap_ring.specs.Offers.{put_of, gap_of, trailing, last_version_of, AreOffers}
+use Rattle.gap_ring.specs.Offers.{put_of, gap_of, trailing, last_version_of, IsHeadBy, AreOffers}
 use Rattle.gap_ring.specs.Turns.{items_taken, IsStartBy, AreTaken}
 
 -- the places of the words, each on a cache line of its own
@@ -41,13 +41,25 @@ versions_word = 96
 abbrev pub word_count : ℕ
 word_count = 112
 
+-- a ring has no more slots than this
+abbrev pub most_slots : ℕ
+most_slots = 16384
+
+-- an attach word and a count of offers are below this
+abbrev pub count_limit : ℕ
+count_limit = 2 ^ 63
+
+-- a version is below this: a word has room for two of them
+abbrev pub version_limit : ℕ
+version_limit = 2 ^ 32
+
 -- the gap words of a trailing gap: zeros where there is none
 abbrev pub no_gap_words : GapWords
 no_gap_words = record { first = 0; last = 0; versions = 0 }
 
 abbrev pub gap_words_of : Option Missed → GapWords
 gap_words_of None = no_gap_words
-gap_words_of (Some m) = record { first = m.first_micros; last = m.last_micros; versions = m.first_version * 2 ^ 32 + m.last_version }
+gap_words_of (Some m) = record { first = m.first_micros; last = m.last_micros; versions = m.first_version * version_limit + m.last_version }
 
 -- the view at the start: nothing was offered, and the taker is attached for its first turn
 abbrev pub first_putting : Putting
@@ -107,6 +119,8 @@ pub record PutRule (bus capacity : ℕ) (p : Putting) : Type 0 where
   -- the attach words that the offers loaded are no higher than the one that was loaded last
   pub attach_low : 1 ≤ p.attach
   pub attach_high : All (λ o. o.attach ≤ p.attach) p.offers
+  -- and so are the heads
+  pub head_high : All (IsHeadBy p.head) p.offers
 
 -- what was taken of it, and what waits
 pub record TakeRule (capacity : ℕ) (p : Putting) (t : Taking) (waiting : List Item) : Type 0 where
@@ -139,7 +153,7 @@ pub record EndRule (p : Putting) (t : Taking) : Type 0 where
   pub no_lead : p.ended ≡ true → p.lead ≡ []
   pub gap_is : p.ended ≡ true → p.gap ≡ gap_words_of (gap_of (trailing p.offers))
   -- and the last version fits its half of a word
-  pub fits : p.ended ≡ true → last_version_of (gap_of (trailing p.offers)) < 2 ^ 32
+  pub fits : p.ended ≡ true → last_version_of (gap_of (trailing p.offers)) < version_limit
   -- an end word that the taker loaded is 0, or one more than the number of offers
   pub end_seen : (t.end ≡ 0) ⊎ ((p.ended ≡ true) × (t.end ≡ length p.offers + 1))
   -- a taker that is done knows all offers, and took all that they put

@@ -1,11 +1,8 @@
 -- A taker, by what its seat knows.
-use Rattle.std.specs.Prelude.{◌≡◌, ℕ, ◌+◌, []}
+use Rattle.std.specs.Prelude.{◌≡◌, ℕ}
 use Rattle.std.specs.Arc.{arc_value}
-use Rattle.atomic_table.specs.Seated.{TableId}
 use Rattle.gap_ring.specs.declared.taker.Taker.{Taker}
 use Rattle.gap_ring.specs.declared.view.Taking.{Taking}
-use Rattle.gap_ring.specs.Turns.{given}
-use Rattle.gap_ring.specs.Steps.{attach_stored}
 
 abbrev pub taking_of : Taker → Taking
 taking_of t = t.seat.me.0.taking
@@ -21,9 +18,3 @@ slots_of_taker t = (arc_value t.ring).shared.table_id.slots
 abbrev pub IsSameRing : Taker → Taker → Type 0
 IsSameRing t u =
     ((arc_value u.ring).shared.table_id ≡ (arc_value t.ring).shared.table_id) × ((arc_value u.ring).shared.key ≡ (arc_value t.ring).shared.key)
-
--- a turn of the taker: one store, of the next attach word. Nothing is taken by it, and nothing was given yet in the new
--- turn
-pub record TurnMade (t t' : Taking) : Type 0 where
-  pub is : t' ≡ attach_stored (t.attach + 1) t
-  pub anew : given t'.taken t'.attach ≡ []

@@ -9,7 +9,7 @@ use Rattle.gap_ring.specs.declared.entries.Offered.{Offered}
 use Rattle.gap_ring.specs.declared.entries.Taken.{Taken}
 use Rattle.gap_ring.specs.Offers.{turn_of, trailing, gap_of, gap_item, readings_of}
 use Rattle.gap_ring.specs.Tiles.{Tiles}
-use Rattle.gap_ring.specs.Groups.{Group, group_items, Ended, IsGroup}
+use Rattle.gap_ring.specs.Groups.{Group, group_items, OfferWas, IsGroup}
 
 -- the items that were taken
 abbrev pub items_taken : List Taken → List Item
@@ -75,4 +75,17 @@ pub record IsWholeTurn (bus : ℕ) (offers : List Offered) (items : List Item) (
   pub whole : items ≡ group_items bus g
   pub group : IsGroup offers g
   pub to_the_end : Tiles (g.items ++ gap_item bus gap) (readings_of offers) g.number (length offers)
-  pub refused : (n : ℕ) → g.next ≤ n → n < length offers → Ended outcome.Refused offers g.turn n
+  pub refused : (n : ℕ) → g.next ≤ n → n < length offers → OfferWas outcome.Refused offers g.turn n
+
+-- a turn, whether or not it lasted to the end: what was given is its group's Start and what follows, up to some item, and
+-- that tiles the records offered from the Start on
+pub record IsPartOfTurn (bus : ℕ) (offers : List Offered) (turn : ℕ) (items : List Item) (g : Group) : Type 0 where
+  pub turn_is : g.turn ≡ turn
+  pub group : IsGroup offers g
+  pub after : List Item
+  pub items_are : items ≡ item.Start bus g.number turn ∷ after
+  -- the rest of the group was not given
+  pub rest : List Item
+  pub prefix : g.items ≡ after ++ rest
+  pub next : ℕ
+  pub tiles : Tiles after (readings_of offers) g.number next

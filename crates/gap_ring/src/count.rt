@@ -1,7 +1,8 @@
 //! What the putter counts of its offers.
-ghost use Rattle.std.specs.Prelude.{◌≡◌, ◌+◌, ◌<◌, ◌^◌, ◌==◌, cond, [], ◌∷◌, Some, None, option_to_list};
+ghost use Rattle.std.specs.Prelude.{◌≡◌, ◌+◌, ◌<◌, ◌==◌, cond, [], ◌∷◌, Some, None, option_to_list};
 ghost use Rattle.bench_model.specs.declared.reading.Item.TheVariants as items;
 ghost use Rattle.gap_ring.specs.Offers.{gap_item, longer, missed_count};
+ghost use Rattle.gap_ring.specs.Rule.{count_limit};
 
 use bench_model::{Item, Missed, Reading};
 
@@ -48,8 +49,8 @@ impl Count {
 
     // A record was refused.
     pub(crate) fn refuse(&mut self, reading: &Reading, attach: u64)
-        requires number { self.old.number < 2 ^ 63 }
-        requires missed { missed_count self.old.missed < 2 ^ 63 }
+        requires number { self.old.number < count_limit }
+        requires missed { missed_count self.old.missed < count_limit }
         ensures { self.new ≡ record self.old { number = self.old.number + 1; missed = cond (attach == self.old.turn) (Some (longer self.old.missed reading.now)) self.old.missed } }
     {
         self.number += 1;
@@ -60,7 +61,7 @@ impl Count {
 }
 
 fn one_more(missed: Option<Missed>, reading: &Reading) -> Missed
-    requires { missed_count missed < 2 ^ 63 }
+    requires { missed_count missed < count_limit }
     ensures { result ≡ longer missed reading.now }
 {
     match missed {

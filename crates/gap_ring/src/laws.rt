@@ -1,18 +1,19 @@
 //! What holds of every list of offers to a ring, and of what was taken. Each function is a law: it does nothing, and
 //! its clauses are proved of the definitions that a ring is to keep to.
 
-ghost use Rattle.std.specs.Prelude.{◌≡◌, ◌≢◌, ◌+◌, ◌*◌, ◌<◌, ◌≤◌, ℕ, List, [], ◌∷◌, ◌++◌, length, map, filter};
+ghost use Rattle.std.specs.Prelude.{◌≡◌, ◌≢◌, ◌⊎◌, ◌+◌, ◌*◌, ◌<◌, ◌≤◌, ℕ, List, [], ◌∷◌, ◌++◌, length, map, filter};
 ghost use Rattle.std.specs.Prelude.{All, AllPairs, Contains, Option, Some, None};
 ghost use Rattle.bench_model.specs.declared.reading.Item.{Item};
 ghost use Rattle.bench_model.specs.declared.reading.Item.TheVariants as item;
 ghost use Rattle.gap_ring.specs.declared.entries.Outcome.{Outcome};
+ghost use Rattle.gap_ring.specs.declared.entries.Outcome.TheVariants as outcome;
 ghost use Rattle.gap_ring.specs.declared.entries.Offered.{Offered};
 ghost use Rattle.gap_ring.specs.declared.entries.Taken.{Taken};
 ghost use Rattle.gap_ring.specs.Offers.{AreOffers, Ends, IsAttached, IsDetached, IsHeadOf};
-ghost use Rattle.gap_ring.specs.Offers.{is_put, put_of, turn_of};
+ghost use Rattle.gap_ring.specs.Offers.{is_put, put_of, turn_of, trailing, gap_of, longer, missed_count};
 ghost use Rattle.gap_ring.specs.Tiles.{numbers_read};
 ghost use Rattle.gap_ring.specs.Groups.{Group, IsGroup, AreGroups};
-ghost use Rattle.gap_ring.specs.Turns.{AreTaken, IsWholeTurn, items_taken, given, ending};
+ghost use Rattle.gap_ring.specs.Turns.{AreTaken, IsWholeTurn, IsPartOfTurn, items_taken, given, ending};
 
 /// An offer ends in one way, by the words that it loaded.
 pub fn an_offer_ends_in_one_way()
@@ -66,6 +67,32 @@ pub fn a_turn_to_the_end_is_whole()
         → AreOffers bus capacity offers → IsAttached turn → AreTaken turn taken → All (λ o. o.attach ≤ turn) offers
         → items_taken taken ≡ put_of offers → turn_of offers ≢ turn
         → (given taken turn ≡ []) × (ending turn offers ≡ None) }
+{}
+
+/// What was given in a turn that may have been broken off: where what was taken is a prefix of what was put, it is
+/// nothing, or the Start of that turn's group and what follows it up to some item, which tiles the records offered from
+/// that Start on.
+pub fn what_was_given_is_a_prefix_of_its_group()
+    ensures { (bus attach turn : ℕ) (offers : List Offered) (taken : List Taken) (waiting : List Item) (groups : List Group)
+        → AreTaken attach taken → AreGroups bus offers (put_of offers) groups → put_of offers ≡ items_taken taken ++ waiting
+        → (given taken turn ≡ []) ⊎ ((g : Group) × Contains groups g × IsPartOfTurn bus offers turn (given taken turn) g) }
+{}
+
+/// A refusal is counted once: where its turn's Start was put, the trailing gap is this record longer, and else it is as
+/// it was. A record that found no taker attached is not counted. Neither puts anything or changes the turn, and a record
+/// that is put ends the gap.
+pub fn a_refusal_is_counted_once()
+    ensures counted { (offers : List Offered) (o : Offered) → o.outcome ≡ outcome.Refused → o.attach ≡ turn_of offers
+        → (trailing (offers ++ o ∷ []) ≡ trailing offers ++ o ∷ [])
+        × (gap_of (trailing (offers ++ o ∷ [])) ≡ Some (longer (gap_of (trailing offers)) o.reading))
+        × (missed_count (gap_of (trailing (offers ++ o ∷ []))) ≡ missed_count (gap_of (trailing offers)) + 1) }
+    ensures uncounted { (offers : List Offered) (o : Offered) → o.outcome ≡ outcome.Refused → o.attach ≢ turn_of offers
+        → trailing (offers ++ o ∷ []) ≡ trailing offers }
+    ensures away { (offers : List Offered) (o : Offered) → o.outcome ≡ outcome.Away
+        → trailing (offers ++ o ∷ []) ≡ trailing offers }
+    ensures nothing_else { (offers : List Offered) (o : Offered) → o.outcome ≢ outcome.Put
+        → (put_of (offers ++ o ∷ []) ≡ put_of offers) × (turn_of (offers ++ o ∷ []) ≡ turn_of offers) }
+    ensures put { (offers : List Offered) (o : Offered) → o.outcome ≡ outcome.Put → trailing (offers ++ o ∷ []) ≡ [] }
 {}
 
 /// What was given in a turn does not change by what is taken under other attach words.

@@ -2,15 +2,19 @@
 ghost use Rattle.std.specs.Prelude.{◌≡◌, length};
 ghost use Rattle.std.specs.Arc.{arc_value};
 ghost use Rattle.gap_ring.specs.Offers.{put_of};
-ghost use Rattle.gap_ring.specs.Steps.{HaveMet};
-ghost use Rattle.gap_ring.specs.PutterView.{ring_of, slots_of, view_of};
+ghost use Rattle.gap_ring.specs.declared.view.Did.TheVariants as did;
+ghost use Rattle.gap_ring.specs.Rule.{head_word};
+ghost use Rattle.gap_ring.specs.Steps.{HaveMet, did_take};
+ghost use Rattle.gap_ring.specs.PutterView.{bus_of, ring_of, slots_of, view_of};
 ghost use Rattle.gap_ring.specs.TakerView.{taking_of};
 ghost use Rattle.gap_ring.specs.MetView.{putting_of_met, taking_of_met};
 
+use crate::plays::OfBus;
 use crate::putter::Putter;
 use crate::steps::join_ends;
 use crate::taker::Taker;
 use crate::view::Place;
+use std::marker::Brand;
 
 /// The two ends of a ring, put together. Contracts see what was offered, put and taken.
 #[derive(Drop)]
@@ -26,11 +30,23 @@ pub struct Met {
 /// Puts the two ends of a ring together.
 pub fn meet(putter: Putter, taker: Taker) -> Met
     requires one { (arc_value taker.ring).shared.table_id ≡ ring_of putter }
-    ensures ends { (putting_of_met result ≡ (view_of putter).putting) × (taking_of_met result ≡ taking_of taker) }
+    ensures ends { (putting_of_met result ≡ (view_of putter).putting) × (taking_of_met result ≡ did_take (taking_of taker) (did.Loaded head_word result.taken)) }
     ensures sized { result.capacity ≡ slots_of putter }
     ensures counts { (result.put ≡ length (putting_of_met result).put) × (result.taken ≡ length (taking_of_met result).taken) }
     ensures put { (putting_of_met result).put ≡ put_of (putting_of_met result).offers }
-    ensures met { HaveMet (slots_of putter) (putting_of_met result) (taking_of_met result) }
+    ensures met { HaveMet (bus_of putter) (slots_of putter) (putting_of_met result) (taking_of_met result) }
+{
+    meet_on::<Brand>(putter, taker)
+}
+
+fn meet_on<W: OfBus>(putter: Putter, taker: Taker) -> Met
+    requires one { (arc_value taker.ring).shared.table_id ≡ ring_of putter }
+    requires bus { W.bus ≡ bus_of putter }
+    ensures ends { (putting_of_met result ≡ (view_of putter).putting) × (taking_of_met result ≡ did_take (taking_of taker) (did.Loaded head_word result.taken)) }
+    ensures sized { result.capacity ≡ slots_of putter }
+    ensures counts { (result.put ≡ length (putting_of_met result).put) × (result.taken ≡ length (taking_of_met result).taken) }
+    ensures put { (putting_of_met result).put ≡ put_of (putting_of_met result).offers }
+    ensures met { HaveMet (bus_of putter) (slots_of putter) (putting_of_met result) (taking_of_met result) }
 {
     let Putter {
         ring,
@@ -45,7 +61,7 @@ pub fn meet(putter: Putter, taker: Taker) -> Met
         progress,
     } = taker;
     drop(other);
-    join_ends(&ring, &mut seat, taker_seat);
+    join_ends::<W>(&ring, &mut seat, taker_seat);
     Met {
         capacity,
         put: count.tail,

@@ -1,7 +1,7 @@
 //! How an offer is made, over the putter's seat.
 ghost use Rattle.std.specs.Prelude.{◌≡◌, ◌+◌, ◌<◌, ◌≤◌, [], length, false, Some, option_to_list};
 ghost use Rattle.gap_ring.specs.Offers.{trailing, gap_of, last_version_of};
-ghost use Rattle.gap_ring.specs.Rule.{gap_words_of, first_word, last_word, versions_word, end_word};
+ghost use Rattle.gap_ring.specs.Rule.{version_limit, gap_words_of, first_word, last_word, versions_word, end_word};
 ghost use Rattle.gap_ring.specs.Steps.{slot_taken};
 ghost use Rattle.gap_ring.specs.May.{MayItems, MayOffer};
 ghost use Rattle.gap_ring.specs.Ends.{IsOn, PutterRests};
@@ -14,7 +14,7 @@ use crate::steps::{
     FIRST, LAST, VERSIONS, load_attach, load_head, put_lead, put_record, reach, store_end,
     store_gap,
 };
-use crate::view::{GapWords, Place, Ring};
+use crate::view::{GapWords, Place, Ring, VERSION_LIMIT};
 use bench_model::{Item, Missed, Reading};
 
 // Puts a record, with what goes before it. Gives the tail after it.
@@ -100,7 +100,7 @@ pub(crate) fn make_offer<W: Said>(
 // The gap words of a trailing gap.
 fn gap_words(missed: Option<Missed>) -> GapWords
     ensures words { result ≡ gap_words_of missed }
-    ensures fits { last_version_of missed < 4294967296 }
+    ensures fits { last_version_of missed < version_limit }
 {
     match missed {
         None => GapWords {
@@ -111,7 +111,8 @@ fn gap_words(missed: Option<Missed>) -> GapWords
         Some(missed) => GapWords {
             first: missed.first_micros,
             last: missed.last_micros,
-            versions: u64::from(missed.first_version) * 4294967296 + u64::from(missed.last_version),
+            versions: u64::from(missed.first_version) * VERSION_LIMIT
+                + u64::from(missed.last_version),
         },
     }
 }

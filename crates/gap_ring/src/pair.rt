@@ -1,7 +1,7 @@
 //! A ring and its two ends.
 ghost use Rattle.std.specs.Prelude.{◌≡◌, ◌≤◌, [], ◌∷◌, IfOk, replicate, slice_set};
 ghost use Rattle.std.specs.Arc.{arc_value};
-ghost use Rattle.gap_ring.specs.Rule.{first_putting, first_taking};
+ghost use Rattle.gap_ring.specs.Rule.{first_putting, first_taking, most_slots};
 
 use crate::count::Count;
 use crate::plays::Roles;
@@ -16,7 +16,7 @@ use std::sync::Arc;
 
 /// A ring of a bus with this many slots, and its two ends. The taker is attached, for its first turn, which is 1.
 pub fn ring(alloc: Global, bus: u32, capacity: usize) -> Result<(Putter, Taker), AllocError>
-    requires { (2 ≤ capacity) × (capacity ≤ 16384) }
+    requires { (2 ≤ capacity) × (capacity ≤ most_slots) }
     ensures one { IfOk result (λ r. r.1.seat.table_id ≡ r.0.seat.table_id) }
     ensures sized { IfOk result (λ r. (r.0.capacity ≡ capacity) × (r.1.capacity ≡ capacity)) }
     ensures bus { IfOk result (λ r. ((arc_value r.0.ring).shared.key ≡ bus) × ((arc_value r.1.ring).shared.key ≡ bus)) }

@@ -24,9 +24,9 @@ pub struct SeeAttach<W> {
 }
 
 impl<W: Said> Play<Option<Item>, View> for SeeAttach<W> {
-    ghost use Rattle.gap_ring.specs.Steps.{saw_attach};
+    ghost use Rattle.gap_ring.specs.Steps.{PutterLoads, saw_attach};
 
-    ghost then = { saw_attach W.reading };
+    ghost then = { PutterLoads (saw_attach W.reading) };
 }
 
 pub struct SeeHead<W> {
@@ -34,97 +34,110 @@ pub struct SeeHead<W> {
 }
 
 impl<W: Said> Play<Option<Item>, View> for SeeHead<W> {
-    ghost use Rattle.gap_ring.specs.Steps.{saw_head};
+    ghost use Rattle.gap_ring.specs.Steps.{PutterLoads, saw_head};
 
-    ghost then = { saw_head W.reading };
+    ghost then = { PutterLoads (saw_head W.reading) };
 }
 
 pub struct Reach;
 
 impl Play<Option<Item>, View> for Reach {
-    ghost use Rattle.gap_ring.specs.Steps.{reached};
+    ghost use Rattle.gap_ring.specs.Steps.{PutterLoads, reached};
 
-    ghost then = { reached };
+    ghost then = { PutterLoads reached };
 }
 
 pub struct PutLead;
 
 impl Play<Option<Item>, View> for PutLead {
-    ghost use Rattle.gap_ring.specs.Steps.{item_in, put_lead};
+    ghost use Rattle.gap_ring.specs.Steps.{PutterStores, item_in, put_lead};
 
-    ghost then = { λ st m n w. put_lead (item_in m.1) st m n w };
+    ghost then = { λ st m n w. PutterStores (put_lead (item_in m.1)) st m n w };
 }
 
 pub struct PutRecord;
 
 impl Play<Option<Item>, View> for PutRecord {
-    ghost use Rattle.gap_ring.specs.Steps.{item_in, record_in, put_record};
+    ghost use Rattle.gap_ring.specs.Steps.{PutterStores, item_in, record_in, put_record};
 
-    ghost then = { λ st m n w. put_record (record_in (item_in m.1)) st m n w };
+    ghost then = { λ st m n w. PutterStores (put_record (record_in (item_in m.1))) st m n w };
 }
 
 pub struct StoreGap;
 
 impl Play<Option<Item>, View> for StoreGap {
-    ghost use Rattle.gap_ring.specs.Steps.{stored_gap};
+    ghost use Rattle.gap_ring.specs.Steps.{PutterStores, stored_gap};
 
-    ghost then = { stored_gap };
+    ghost then = { PutterStores stored_gap };
 }
 
 pub struct StoreEnd;
 
 impl Play<Option<Item>, View> for StoreEnd {
-    ghost use Rattle.gap_ring.specs.Steps.{stored_end};
+    ghost use Rattle.gap_ring.specs.Steps.{PutterStores, stored_end};
 
-    ghost then = { stored_end };
+    ghost then = { PutterStores stored_end };
 }
 
 pub struct SeeEnd;
 
 impl Play<Option<Item>, View> for SeeEnd {
-    ghost use Rattle.gap_ring.specs.Steps.{saw_end};
+    ghost use Rattle.gap_ring.specs.Steps.{TakerLoads, saw_end};
 
-    ghost then = { saw_end };
+    ghost then = { TakerLoads saw_end };
 }
 
 pub struct SeeTail;
 
 impl Play<Option<Item>, View> for SeeTail {
-    ghost use Rattle.gap_ring.specs.Steps.{saw_tail};
+    ghost use Rattle.gap_ring.specs.Steps.{TakerLoads, saw_tail};
 
-    ghost then = { saw_tail };
+    ghost then = { TakerLoads saw_tail };
 }
 
 pub struct SeeGap;
 
 impl Play<Option<Item>, View> for SeeGap {
-    ghost use Rattle.gap_ring.specs.Steps.{saw_gap};
+    ghost use Rattle.gap_ring.specs.Steps.{TakerLoads, saw_gap};
 
-    ghost then = { saw_gap };
+    ghost then = { TakerLoads saw_gap };
 }
 
 pub struct StoreHead;
 
 impl Play<Option<Item>, View> for StoreHead {
-    ghost use Rattle.gap_ring.specs.Steps.{stored_head};
+    ghost use Rattle.gap_ring.specs.Steps.{TakerStores, stored_head};
 
-    ghost then = { stored_head };
+    ghost then = { TakerStores stored_head };
 }
 
 pub struct StoreAttach;
 
 impl Play<Option<Item>, View> for StoreAttach {
-    ghost use Rattle.gap_ring.specs.Steps.{stored_attach};
+    ghost use Rattle.gap_ring.specs.Steps.{TakerStores, stored_attach};
 
-    ghost then = { stored_attach };
+    ghost then = { TakerStores stored_attach };
 }
 
-pub struct Learn;
+/// The bus of the ring, which the two ends are to learn of when they meet.
+pub trait OfBus {
+    ghost use Rattle.std.specs.Prelude.{ℕ};
 
-impl Play<Option<Item>, View> for Learn {
-    ghost use Rattle.gap_ring.specs.Steps.{learned};
+    ghost bus: { ℕ };
+}
 
-    ghost then = { learned };
+impl OfBus for Brand {
+    ghost bus = { 0 };
+}
+
+pub struct Learn<W> {
+    of: PhantomData<W>,
+}
+
+impl<W: OfBus> Play<Option<Item>, View> for Learn<W> {
+    ghost use Rattle.gap_ring.specs.Steps.{TakerLoads, learned};
+
+    ghost then = { TakerLoads (learned W.bus) };
 }
 
 pub struct Roles;

@@ -1,10 +1,11 @@
 //! How far a taker has come.
-ghost use Rattle.std.specs.Prelude.{◌≡◌, ◌+◌, ◌<◌, ◌^◌, ◌||◌, ◌&&◌, nat_lt, cond, Some, None};
+ghost use Rattle.std.specs.Prelude.{◌≡◌, ◌+◌, ◌<◌, ◌||◌, ◌&&◌, nat_lt, cond, Some, None};
+ghost use Rattle.gap_ring.specs.Rule.{most_offers};
 ghost use Rattle.gap_ring.specs.Turns.{starts_turn, next_after};
 ghost use Rattle.gap_ring.specs.Steps.{record_number};
 ghost use Rattle.gap_ring.specs.Takes.{gap_by};
 
-use crate::view::GapWords;
+use crate::view::{GapWords, VERSION_LIMIT};
 use bench_model::{Item, Missed};
 
 /// The items taken, the attach word, whether this turn's Start was taken, and the number after the last record given in
@@ -21,7 +22,7 @@ impl Progress {
     // An item was taken. Says whether it is one of this turn.
     pub(crate) fn pass(&mut self, item: &Item) -> bool
         requires head { self.old.head < 18446744073709551615 }
-        requires number { record_number item.now < 2 ^ 62 }
+        requires number { record_number item.now < most_offers }
         ensures result { result ≡ (self.old.started || starts_turn self.old.attach item.now) }
         ensures progress { self.new ≡ record self.old { head = self.old.head + 1; started = result; next = cond result (next_after self.old.next item.now) self.old.next } }
     {
@@ -55,8 +56,8 @@ impl Progress {
                 count: number - self.next,
                 first_micros: words.first,
                 last_micros: words.last,
-                first_version: (words.versions / 4294967296) as u32,
-                last_version: (words.versions % 4294967296) as u32,
+                first_version: (words.versions / VERSION_LIMIT) as u32,
+                last_version: (words.versions % VERSION_LIMIT) as u32,
             })
         } else {
             None

@@ -1,6 +1,7 @@
 //! The end that puts.
 ghost use Rattle.std.specs.Prelude.{◌≡◌, ◌≤◌, [], IfOk};
 ghost use Rattle.std.specs.Arc.{arc_value};
+ghost use Rattle.gap_ring.specs.Rule.{most_slots};
 ghost use Rattle.gap_ring.specs.Ends.{IsOn, PutterRests};
 
 use crate::answers::Offer;
@@ -21,7 +22,7 @@ pub struct Putter {
     pub(crate) capacity: u64,
     pub(crate) count: Count,
     ghost on: { IsOn (arc_value ring).shared.table_id seat },
-    ghost sized: { (capacity ≡ (arc_value ring).shared.table_id.slots) × (2 ≤ capacity) × (capacity ≤ 16384) },
+    ghost sized: { (capacity ≡ (arc_value ring).shared.table_id.slots) × (2 ≤ capacity) × (capacity ≤ most_slots) },
     ghost rests: { PutterRests count seat.me.0 × (seat.me.1 ≡ []) },
 }
 

@@ -2,20 +2,20 @@
 ghost use Rattle.std.specs.Prelude.{◌≡◌, ◌+◌, ◌%◌, ◌<◌, ◌≤◌, ◌∷◌, ℕ, [], length, true, cond, All, Option, Some, None};
 ghost use Rattle.bench_model.specs.declared.reading.Item.TheVariants as items;
 ghost use Rattle.gap_ring.specs.Offers.{IsHeadOf, put_of, trailing, gap_of, last_version_of};
-ghost use Rattle.gap_ring.specs.Rule.{gap_words_of, head_word, tail_word, first_word, last_word, versions_word};
+ghost use Rattle.gap_ring.specs.Rule.{version_limit, gap_words_of, head_word, tail_word, first_word, last_word, versions_word};
 ghost use Rattle.gap_ring.specs.Steps.{attach_seen, head_seen, is_short, slot_taken, did_put, with_slot};
 ghost use Rattle.gap_ring.specs.Steps.{lead_put, record_put, gap_stored, end_stored};
 ghost use Rattle.gap_ring.specs.Steps.{end_loaded, saw_tail, saw_gap, head_stored, attach_stored, both_sides, HaveMet};
 ghost use Rattle.gap_ring.specs.May.{MayOffer, MayPut, MayReach, MayLead, MayRecord, MayEnd};
 ghost use Rattle.gap_ring.specs.May.{IsGapWord, MayTake, MayTurn, MayGive};
 ghost use Rattle.bench_model.specs.declared.reading.Item.{Item};
-ghost use Rattle.gap_ring.specs.Ends.{IsOn, did_reach};
+ghost use Rattle.gap_ring.specs.Ends.{IsOn, did_reach, did_learn};
 ghost use Rattle.atomic_table.specs.Table.{step};
 ghost use mathlib.Core.Option.{none};
 
 use crate::plays::{
-    Learn, PutLead, PutRecord, Reach, Roles, Said, SeeAttach, SeeEnd, SeeGap, SeeHead, SeeTail,
-    StoreAttach, StoreEnd, StoreGap, StoreHead,
+    Learn, OfBus, PutLead, PutRecord, Reach, Roles, Said, SeeAttach, SeeEnd, SeeGap, SeeHead,
+    SeeTail, StoreAttach, StoreEnd, StoreGap, StoreHead,
 };
 use crate::view::{Place, Ring};
 use bench_model::{Item, Reading};
@@ -122,7 +122,7 @@ pub(crate) fn store_end(ring: &Ring, seat: &mut Place, value: u64)
     requires may { MayEnd seat.old.me.0 × (seat.old.me.0.putting.lead ≡ []) }
     requires count { value ≡ length seat.old.me.0.putting.offers + 1 }
     requires gap { seat.old.me.0.putting.gap ≡ gap_words_of (gap_of (trailing seat.old.me.0.putting.offers)) }
-    requires fits { last_version_of (gap_of (trailing seat.old.me.0.putting.offers)) < 4294967296 }
+    requires fits { last_version_of (gap_of (trailing seat.old.me.0.putting.offers)) < version_limit }
     ensures on { IsOn ring.now.shared.table_id seat.new }
     ensures stored { seat.new.me ≡ (record seat.old.me.0 { putting = end_stored value seat.old.me.0.putting }, seat.old.me.1) }
 {
@@ -184,12 +184,13 @@ pub(crate) fn store_attach(ring: &Ring, seat: &mut Place, value: u64)
 }
 
 // Puts the taker's seat into the putter's, which then knows what both know.
-pub(crate) fn join_ends(ring: &Ring, seat: &mut Place, other: Place)
+pub(crate) fn join_ends<W: OfBus>(ring: &Ring, seat: &mut Place, other: Place)
+    requires bus { W.bus ≡ ring.now.shared.key }
     requires on { IsOn ring.now.shared.table_id seat.old × (other.table_id ≡ ring.now.shared.table_id) × (other.me.1 ≡ []) }
     requires may { (seat.old.me.0.puts ≡ true) × (other.me.0.takes ≡ true) }
-    ensures joined { seat.new.me.0 ≡ both_sides seat.old.me.0 other.me.0 }
-    ensures met { HaveMet ring.now.shared.table_id.slots seat.new.me.0.putting seat.new.me.0.taking }
+    ensures joined { (n : ℕ) × (seat.new.me.0 ≡ did_learn n (both_sides seat.old.me.0 other.me.0)) × (n ≡ length other.me.0.taking.taken) }
+    ensures met { HaveMet ring.now.shared.key ring.now.shared.table_id.slots seat.new.me.0.putting seat.new.me.0.taking }
 {
     ring.shared.join_seat::<Roles>(seat, other);
-    ring.shared.load::<Learn>(seat, HEAD);
+    ring.shared.load::<Learn<W>>(seat, HEAD);
 }

@@ -1,6 +1,7 @@
 //! The end that takes.
 ghost use Rattle.std.specs.Prelude.{◌≡◌, ◌≤◌, []};
 ghost use Rattle.std.specs.Arc.{arc_value};
+ghost use Rattle.gap_ring.specs.Rule.{most_slots};
 ghost use Rattle.gap_ring.specs.Ends.{IsOn, TakerRests};
 
 use crate::answers::Take;
@@ -19,15 +20,16 @@ pub struct Taker {
     pub(crate) capacity: u64,
     pub(crate) progress: Progress,
     ghost on: { IsOn (arc_value ring).shared.table_id seat },
-    ghost sized: { (capacity ≡ (arc_value ring).shared.table_id.slots) × (2 ≤ capacity) × (capacity ≤ 16384) },
+    ghost sized: { (capacity ≡ (arc_value ring).shared.table_id.slots) × (2 ≤ capacity) × (capacity ≤ most_slots) },
     ghost rests: { TakerRests progress seat.me.0 × (seat.me.1 ≡ []) },
 }
 
 impl Taker {
-    ghost use Rattle.std.specs.Prelude.{◌≡◌, ◌+◌, ◌%◌, ◌<◌, ◌^◌, ◌↔◌, [], IsTrue};
+    ghost use Rattle.std.specs.Prelude.{◌≡◌, ◌+◌, ◌%◌, ◌<◌, ◌↔◌, [], IsTrue};
     ghost use Rattle.gap_ring.specs.Offers.{IsAttached, IsDetached};
-    ghost use Rattle.gap_ring.specs.TakerView.{taking_of, turn_of_taker, slots_of_taker, IsSameRing, TurnMade};
-    ghost use Rattle.gap_ring.specs.Takes.{TakeMade};
+    ghost use Rattle.gap_ring.specs.Rule.{count_limit};
+    ghost use Rattle.gap_ring.specs.TakerView.{taking_of, turn_of_taker, slots_of_taker, IsSameRing};
+    ghost use Rattle.gap_ring.specs.Takes.{TakeMade, TurnMade};
 
     #[tactic(auto, using(crate::proofs::TakingLaws::turn_kept))]
     /// Takes the oldest item. It takes no memory and waits for nothing.
@@ -48,7 +50,7 @@ impl Taker {
     /// Attaches the taker, for its next turn.
     pub fn attach(&mut self)
         requires detached { IsDetached (turn_of_taker self.old) }
-        requires room { turn_of_taker self.old < 2 ^ 63 }
+        requires room { turn_of_taker self.old < count_limit }
         ensures made { TurnMade (taking_of self.old) (taking_of self.new) }
         ensures same { IsSameRing self.old self.new }
     {
@@ -58,7 +60,7 @@ impl Taker {
     /// Detaches the taker.
     pub fn detach(&mut self)
         requires attached { IsAttached (turn_of_taker self.old) }
-        requires room { turn_of_taker self.old < 2 ^ 63 }
+        requires room { turn_of_taker self.old < count_limit }
         ensures made { TurnMade (taking_of self.old) (taking_of self.new) }
         ensures same { IsSameRing self.old self.new }
     {
@@ -66,7 +68,7 @@ impl Taker {
     }
 
     fn turn(&mut self)
-        requires room { turn_of_taker self.old < 2 ^ 63 }
+        requires room { turn_of_taker self.old < count_limit }
         ensures made { TurnMade (taking_of self.old) (taking_of self.new) }
         ensures same { IsSameRing self.old self.new }
     {

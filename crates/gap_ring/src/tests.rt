@@ -1,15 +1,18 @@
 //! What no clause shows: that each call succeeds with ample memory, runs worked out by hand, and that both ends may
-//! go to another thread.
+//! go to another thread and be dropped.
 ghost use Rattle.std.specs.Prelude.{◌≡◌, ◌+◌, ◌<◌, false, length};
 ghost use Rattle.gap_ring.specs.Offers.{IsAttached};
 ghost use Rattle.gap_ring.specs.TakerView.{turn_of_taker};
-ghost use Rattle.gap_ring.specs.PutterView.{bus_of, offers_of, has_ended};
+ghost use Rattle.gap_ring.specs.PutterView.{ring_of, bus_of, offers_of, has_ended};
+ghost use Rattle.std.specs.Arc.{arc_value};
 
 use crate::{Met, Offer, Putter, Take, Taker, meet, ring};
 use bench_model::{Body, Item, Missed, Reading};
 use std::alloc::Global;
 use std::process::Abort;
 use std::test::Fail;
+
+mod two_threads;
 
 /// How an offer ended, with the head of a refusal.
 #[derive(Clone, Copy, Debug, PartialEq, Eq)]
@@ -21,14 +24,24 @@ enum Answer {
 
 fn offer(putter: &mut Putter, number: u64) -> Answer
     requires ring { (bus_of putter.old ≡ 0) × (has_ended putter.old ≡ false) }
-    requires number { (number ≡ length (offers_of putter.old)) × (number < 1000) }
-    ensures ring { (bus_of putter.new ≡ 0) × (has_ended putter.new ≡ false) }
+    requires number { (number ≡ length (offers_of putter.old)) × (number < 1000000) }
+    ensures ring { (bus_of putter.new ≡ 0) × (has_ended putter.new ≡ false) × (ring_of putter.new ≡ ring_of putter.old) }
+    ensures number { length (offers_of putter.new) ≡ number + 1 }
+{
+    offer_under(putter, number, 0)
+}
+
+/// Offers a record that was decoded under this version.
+fn offer_under(putter: &mut Putter, number: u64, version: u32) -> Answer
+    requires ring { (bus_of putter.old ≡ 0) × (has_ended putter.old ≡ false) }
+    requires number { (number ≡ length (offers_of putter.old)) × (number < 1000000) }
+    ensures ring { (bus_of putter.new ≡ 0) × (has_ended putter.new ≡ false) × (ring_of putter.new ≡ ring_of putter.old) }
     ensures number { length (offers_of putter.new) ≡ number + 1 }
 {
     let reading = Reading {
         bus: 0,
         number,
-        version: 0,
+        version,
         micros: 1_000_000 + 10 * number,
         body: Body::Bad,
     };
@@ -53,7 +66,8 @@ enum Got {
 
 fn take(taker: &mut Taker) -> Got
     requires { IsAttached (turn_of_taker taker.old) }
-    ensures { turn_of_taker taker.new ≡ turn_of_taker taker.old }
+    ensures turn { turn_of_taker taker.new ≡ turn_of_taker taker.old }
+    ensures ring { (arc_value taker.new.ring).shared.table_id ≡ (arc_value taker.old.ring).shared.table_id }
 {
     match taker.take() {
         Take::Item { item } => match item {
@@ -158,11 +172,119 @@ fn two_ends_meet(rt: HostRuntime) -> Result<(), Fail> {
     Ok(())
 }
 
-fn sends<T: Send>() {}
+#[test]
+fn two_sessions_find_the_end_and_the_ends_meet(rt: HostRuntime) -> Result<(), Fail> {
+    let (mut putter, mut taker) = ring(rt.alloc(), 0, 3)?;
+    assert_eq!(rt; offer(&mut putter, 0), Answer::Put);
+    assert_eq!(rt; offer(&mut putter, 1), Answer::Put);
+    assert_eq!(rt; offer(&mut putter, 2), Answer::Refused { head: 0 });
+    putter.end();
+    assert_eq!(rt; take(&mut taker), Got::Start { number: 0, turn: 1 });
+    assert_eq!(rt; take(&mut taker), Got::Record { number: 0 });
+    assert_eq!(rt; take(&mut taker), Got::Record { number: 1 });
+    let gap = Missed {
+        first: 2,
+        count: 1,
+        first_micros: 1_000_020,
+        last_micros: 1_000_020,
+        first_version: 0,
+        last_version: 0,
+    };
+    assert_eq!(rt;
+        take(&mut taker),
+        Got::Ended {
+            number: 3,
+            gap: Some(gap)
+        }
+    );
+    taker.detach();
+    taker.attach();
+    assert_eq!(rt;
+        take(&mut taker),
+        Got::Ended {
+            number: 3,
+            gap: None
+        }
+    );
+    let met = meet(putter, taker);
+    assert_eq!(rt; met.capacity, 3);
+    assert_eq!(rt; met.put, 3);
+    assert_eq!(rt; met.taken, 3);
+    Ok(())
+}
 
 #[test]
-fn both_ends_may_go_to_another_thread() {
-    sends::<Putter>();
-    sends::<Taker>();
-    sends::<Met>();
+fn a_turn_that_saw_no_start_ends_with_no_gap(rt: HostRuntime) -> Result<(), Fail> {
+    let (mut putter, mut taker) = ring(rt.alloc(), 0, 2)?;
+    assert_eq!(rt; offer(&mut putter, 0), Answer::Put);
+    taker.detach();
+    taker.attach();
+    assert_eq!(rt; offer(&mut putter, 1), Answer::Refused { head: 0 });
+    putter.end();
+    assert_eq!(rt; take(&mut taker), Got::Old);
+    assert_eq!(rt; take(&mut taker), Got::Old);
+    assert_eq!(rt;
+        take(&mut taker),
+        Got::Ended {
+            number: 2,
+            gap: None
+        }
+    );
+    Ok(())
+}
+
+/// Records 1 and 2, of which the second was decoded under version 3.
+const UNDER_TWO_VERSIONS: Missed = Missed {
+    first: 1,
+    count: 2,
+    first_micros: 1_000_010,
+    last_micros: 1_000_020,
+    first_version: 2,
+    last_version: 3,
+};
+
+#[test]
+fn a_gap_tells_the_versions_of_its_first_and_its_last_record(rt: HostRuntime) -> Result<(), Fail> {
+    let (mut putter, mut taker) = ring(rt.alloc(), 0, 2)?;
+    assert_eq!(rt; offer_under(&mut putter, 0, 2), Answer::Put);
+    assert_eq!(rt; offer_under(&mut putter, 1, 2), Answer::Refused { head: 0 });
+    assert_eq!(rt; offer_under(&mut putter, 2, 3), Answer::Refused { head: 0 });
+    assert_eq!(rt; take(&mut taker), Got::Start { number: 0, turn: 1 });
+    assert_eq!(rt; take(&mut taker), Got::Record { number: 0 });
+    assert_eq!(rt; offer_under(&mut putter, 3, 4), Answer::Put);
+    assert_eq!(rt;
+        take(&mut taker),
+        Got::Gap {
+            missed: UNDER_TWO_VERSIONS
+        }
+    );
+    Ok(())
+}
+
+#[test]
+fn the_gap_at_the_end_tells_both_versions(rt: HostRuntime) -> Result<(), Fail> {
+    let (mut putter, mut taker) = ring(rt.alloc(), 0, 2)?;
+    assert_eq!(rt; offer_under(&mut putter, 0, 2), Answer::Put);
+    assert_eq!(rt; offer_under(&mut putter, 1, 2), Answer::Refused { head: 0 });
+    assert_eq!(rt; offer_under(&mut putter, 2, 3), Answer::Refused { head: 0 });
+    putter.end();
+    assert_eq!(rt; take(&mut taker), Got::Start { number: 0, turn: 1 });
+    assert_eq!(rt; take(&mut taker), Got::Record { number: 0 });
+    assert_eq!(rt;
+        take(&mut taker),
+        Got::Ended {
+            number: 3,
+            gap: Some(UNDER_TWO_VERSIONS)
+        }
+    );
+    Ok(())
+}
+
+fn sends_and_drops<T: Send + Drop>() {}
+
+#[test]
+fn both_ends_may_go_to_another_thread_and_be_dropped() {
+    sends_and_drops::<Putter>();
+    sends_and_drops::<Taker>();
+    sends_and_drops::<Met>();
 }

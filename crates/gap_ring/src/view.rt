@@ -13,6 +13,9 @@ pub enum Did {
     Stored { word: u64, value: u64 },
 }
 
+/// A version is below this: a gap word has room for two of them.
+pub(crate) const VERSION_LIMIT: u64 = 4_294_967_296;
+
 /// The three gap words: the stamps of the first and the last record of the trailing gap, and their versions.
 #[derive(Clone, Copy, Debug)]
 pub struct GapWords {

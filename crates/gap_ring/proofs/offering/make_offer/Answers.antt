@@ -1,4 +1,4 @@
-use Rattle.std.proofs.Common.{◌≡◌, ◌∙◌, ap, refl, sym, arith}
+use Rattle.std.proofs.Common.{◌∙◌, ap, refl}
 use Rattle.gap_ring.specs.declared.view.View.{View}
 use Rattle.gap_ring.proofs.OfferLaws.{Attaching, Seen, odd_from, away_leaves, refused_end, refused_hand, may_items, put_end}
 use Rattle.gap_ring.proofs.offering.make_offer.Goals as goal

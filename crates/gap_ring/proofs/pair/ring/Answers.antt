@@ -1,5 +1,4 @@
-use Rattle.std.proofs.Common.{◌<◌, refl, sym, ap, ◌∙◌, true, arith}
-use Rattle.gap_ring.specs.declared.view.View.{View}
+use Rattle.std.proofs.Common.{refl, ap, arith}
 use Rattle.gap_ring.proofs.RingLaws.{starts, splits}
 use Rattle.gap_ring.proofs.pair.ring.Goals as goal
 

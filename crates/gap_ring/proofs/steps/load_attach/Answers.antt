@@ -1,9 +1,9 @@
-use Rattle.std.proofs.Common.{ℕ, ◌<◌, Option, sym, subst, arith}
+use Rattle.std.proofs.Common.{ℕ, Option, sym, subst, arith}
 use mathlib.Core.Option.{none}
 use Rattle.atomic_table.specs.Table.{step, Allows}
 use Rattle.bench_model.specs.declared.reading.Reading.{Reading}
 use Rattle.gap_ring.specs.Rule.{Kept, attach_word}
-use Rattle.gap_ring.specs.Steps.{saw_attach}
+use Rattle.gap_ring.specs.Steps.{PutterLoads, saw_attach}
 use Rattle.gap_ring.proofs.PutLaws.{sees_attach}
 use Rattle.gap_ring.proofs.steps.load_attach.Goals as goal
 
@@ -14,6 +14,6 @@ load-requires g c =
     let ring = c.args.ring.now.shared in (
       c.requires.on.0,
       omega (arith, c.requires.on.1),
-      subst (λ (r : Option Reading). Allows (Kept ring.key) ring.table_id.slots seat.id seat.me attach_word (λ (n : ℕ). n) (saw_attach r (step ring.table_id.slots attach_word 0 0 none) seat.me))
+      subst (λ (r : Option Reading). Allows (Kept ring.key) ring.table_id.slots seat.id seat.me attach_word (λ (n : ℕ). n) (PutterLoads (saw_attach r) (step ring.table_id.slots attach_word 0 0 none) seat.me))
           (sym c.requires.said) (sees_attach ring.key ring.table_id.slots seat.id seat.me c.args.reading.now c.requires.may),
     )

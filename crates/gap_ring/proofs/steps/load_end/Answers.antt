@@ -1,4 +1,4 @@
-use Rattle.std.proofs.Common.{◌<◌, arith}
+use Rattle.std.proofs.Common.{arith}
 use Rattle.gap_ring.proofs.TakeLaws.{sees_end}
 use Rattle.gap_ring.proofs.steps.load_end.Goals as goal
 

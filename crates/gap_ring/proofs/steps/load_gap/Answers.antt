@@ -1,4 +1,4 @@
-use Rattle.std.proofs.Common.{◌<◌, arith}
+use Rattle.std.proofs.Common.{arith}
 use Rattle.gap_ring.proofs.TakeLaws.{sees_gap}
 use Rattle.gap_ring.proofs.steps.load_gap.Goals as goal
 

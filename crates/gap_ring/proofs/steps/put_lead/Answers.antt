@@ -1,4 +1,4 @@
-use Rattle.std.proofs.Common.{◌<◌, ◌∙◌, arith}
+use Rattle.std.proofs.Common.{◌∙◌, arith}
 use Rattle.gap_ring.proofs.PutLaws.{lead_ready}
 use Rattle.gap_ring.proofs.steps.put_lead.Goals as goal
 

@@ -1,4 +1,4 @@
-use Rattle.std.proofs.Common.{◌<◌, arith}
+use Rattle.std.proofs.Common.{arith}
 use Rattle.gap_ring.proofs.PutLaws.{reaches}
 use Rattle.gap_ring.proofs.steps.reach.Goals as goal
 

@@ -1,4 +1,4 @@
-use Rattle.std.proofs.Common.{◌<◌, arith}
+use Rattle.std.proofs.Common.{arith}
 use Rattle.gap_ring.proofs.TakeLaws.{turns}
 use Rattle.gap_ring.proofs.steps.store_attach.Goals as goal
 

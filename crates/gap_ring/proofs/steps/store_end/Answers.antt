@@ -1,5 +1,5 @@
-use Rattle.std.proofs.Common.{◌<◌, arith}
-use Rattle.gap_ring.proofs.PutLaws.{stores_end}
+use Rattle.std.proofs.Common.{arith}
+use Rattle.gap_ring.proofs.StoreLaws.{stores_end}
 use Rattle.gap_ring.proofs.steps.store_end.Goals as goal
 
 pub store-requires : goal.store-requires

@@ -1,5 +1,5 @@
-use Rattle.std.proofs.Common.{◌<◌, arith}
-use Rattle.gap_ring.proofs.PutLaws.{stores_gap}
+use Rattle.std.proofs.Common.{arith}
+use Rattle.gap_ring.proofs.StoreLaws.{stores_gap}
 use Rattle.gap_ring.proofs.steps.store_gap.Goals as goal
 
 pub store-requires : goal.store-requires

@@ -1,4 +1,4 @@
-use Rattle.std.proofs.Common.{◌<◌, ◌∷◌, [], ◌∙◌, Some, sym, ap, arith}
+use Rattle.std.proofs.Common.{◌∷◌, ◌∙◌, Some, sym, ap, arith}
 use Rattle.atomic_table.specs.Table.{rest}
 use Rattle.gap_ring.proofs.TakeLaws.{head_ready}
 use Rattle.gap_ring.proofs.steps.take_item.Goals as goal

@@ -1,5 +1,5 @@
-use Rattle.std.proofs.Common.{ap, ◌∙◌, refl}
-use Rattle.gap_ring.proofs.TakingLaws.{Took, rests_after, item_made, old_made, Found, end_made}
+use Rattle.std.proofs.Common.{ap}
+use Rattle.gap_ring.proofs.TakingLaws.{Took, rests_after, item_made, old_made, nothing_made, Found, end_made}
 use Rattle.gap_ring.proofs.taking.make_take.Goals as goal
 
 pub returns-then-tail-progress-clause-made : goal.returns-then-tail-progress-clause-made
@@ -69,3 +69,9 @@ returns-else-pass-clause-made c =
       third = c.take_item-item.ensures.taken;
     } in
     old_made c.args.ring.now.shared.table_id.slots c.load_end-end.result c.load_tail-tail.result c.args.progress.now c.take_item-item.result seat.me c.load_end-end.new.seat.me c.load_tail-tail.new.seat.me c.take_item-item.new.seat.me h c.pass.result c.pass.ensures.result c.if-pass.false
+
+pub returns-then-end-eq0-clause-made : goal.returns-then-end-eq0-clause-made
+returns-then-end-eq0-clause-made c =
+    let seat = c.args.seat.now in
+    nothing_made c.args.ring.now.shared.table_id.slots c.load_end-end.result c.load_tail-tail.result c.args.progress.now seat.me c.load_end-end.new.seat.me c.load_tail-tail.new.seat.me
+    c.requires.rests.0 c.load_end-end.ensures.seen c.load_tail-tail.ensures.seen c.if-tail-progress.true c.if-end-eq0.true
