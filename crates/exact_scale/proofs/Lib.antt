@@ -1,4 +1,5 @@
 pub mod DigitLaws
+pub mod ExistenceLaws
 pub mod FitLaws
 pub mod LeastLaws
 pub mod PartsLaws

@@ -18,7 +18,7 @@ mod reading;
 mod scaling;
 mod significand;
 
-pub use laws::decimal_is_unique;
+pub use laws::{a_decimal_text_denotes_one, decimal_is_unique};
 pub use printing::Exact;
 pub use reading::{Decimal, DecimalFault};
 pub use scaling::{Scale, Wide};
