@@ -1,5 +1,5 @@
 -- A factor and an offset that are too wide have no scale.
-use Rattle.std.proofs.Common.{◌≡◌, ◌∙◌, sym, ap, subst, ℕ, ◌+◌, ◌-◌, ◌*◌, ◌^◌, ◌<◌, ◌≤◌, max, ◌⊎◌, inl, inr, List, ℤ, pos, arith}
+use Rattle.std.proofs.Common.{◌≡◌, ◌∙◌, sym, ap, subst, ℕ, ◌-◌, ◌*◌, ◌^◌, ◌<◌, ◌≤◌, max, ◌⊎◌, inl, inr, List, ℤ, pos, arith}
 use Rattle.std.specs.Prelude.{unsigned_abs}
 use Rattle.std.proofs.Math.Nat.{le-mul_of_pos_right, one-le-pow}
 use Rattle.std.proofs.lemmas.Int.{unsigned_abs-mul}
@@ -8,7 +8,7 @@ use Rattle.exact_scale.specs.declared.scaling.Scale.{Scale}
 use Rattle.exact_scale.specs.Spelling.{Denotes}
 use Rattle.exact_scale.specs.Limits.{most_places, numerator_limit, IsNarrow, IsTooWide, numerator_over}
 use Rattle.token_forms.specs.declared.fault.NumberFault.{NumberFault}
-use Rattle.token_forms.specs.declared.fault.NumberFault.TheVariants.{Wide, Memory}
+use Rattle.token_forms.specs.declared.fault.NumberFault.TheVariants.{Form, Wide, Memory}
 use Rattle.token_forms.specs.Numbers.{signed_text, HasNoDecimal}
 use Rattle.token_forms.specs.Outcomes.{IsNoDecimal}
 use Rattle.dbc_grammar.specs.declared.statement.Scaling.{Scaling}
@@ -27,21 +27,29 @@ too_wide to n k (inl places) few within narrow = absurd (omega arith)
 too_wide to n k (inr size) few within narrow = let more = grows to n k in absurd (omega arith)
 
 -- where the factor has no decimal
-pub factor_refuses : (text : List ℕ) (scaling : Scaling) (fault : NumberFault) → IsNoDecimal (signed_text text scaling.factor) fault →
-    HasNoScale text scaling fault
-factor_refuses text scaling Wide none = λ scale s.
+pub no_factor : (text : List ℕ) (scaling : Scaling) → HasNoDecimal (signed_text text scaling.factor) → (scale : Scale) → ¬ IsScaleOf text scaling scale
+no_factor text scaling none scale s =
     let within : s.factor_places ≤ scale.k = omega (arith, s.places) in
     too_wide scale.k s.factor s.factor_places (none s.factor s.factor_places s.factor_denoted) s.within.places within
     (subst IsNarrow s.factor_is s.within.factor)
+
+pub factor_refuses : (text : List ℕ) (scaling : Scaling) (fault : NumberFault) → IsNoDecimal (signed_text text scaling.factor) fault →
+    HasNoScale text scaling fault
+factor_refuses text scaling Form none = no_factor text scaling (λ num k d. absurd (none (d.spelling, d.spelled)))
+factor_refuses text scaling Wide none = no_factor text scaling none.1
 factor_refuses text scaling Memory none = tt
 
 -- or the offset
-pub offset_refuses : (text : List ℕ) (scaling : Scaling) (fault : NumberFault) → IsNoDecimal (signed_text text scaling.offset) fault →
-    HasNoScale text scaling fault
-offset_refuses text scaling Wide none = λ scale s.
+pub no_offset : (text : List ℕ) (scaling : Scaling) → HasNoDecimal (signed_text text scaling.offset) → (scale : Scale) → ¬ IsScaleOf text scaling scale
+no_offset text scaling none scale s =
     let within : s.offset_places ≤ scale.k = omega (arith, s.places) in
     too_wide scale.k s.offset s.offset_places (none s.offset s.offset_places s.offset_denoted) s.within.places within
     (subst IsNarrow s.offset_is s.within.offset)
+
+pub offset_refuses : (text : List ℕ) (scaling : Scaling) (fault : NumberFault) → IsNoDecimal (signed_text text scaling.offset) fault →
+    HasNoScale text scaling fault
+offset_refuses text scaling Form none = no_offset text scaling (λ num k d. absurd (none (d.spelling, d.spelled)))
+offset_refuses text scaling Wide none = no_offset text scaling none.1
 offset_refuses text scaling Memory none = tt
 
 -- or one of them over the common power of ten

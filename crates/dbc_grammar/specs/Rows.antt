@@ -1,7 +1,6 @@
 -- What the makers of signals answer, and what a message's signals and links are together.
 use Rattle.std.specs.Prelude.{◌≡◌, ℕ, Bool, List}
 use Rattle.std.specs.List.{enumerate_from}
-use Rattle.bench_model.specs.declared.database.Signal.{Signal}
 use Rattle.token_forms.specs.declared.fault.NumberFault.{NumberFault}
 use Rattle.token_forms.specs.declared.fault.NumberFault.TheVariants as number
 use Rattle.dbc_grammar.specs.declared.fault.DbcFault.{DbcFault}
@@ -12,10 +11,11 @@ use Rattle.dbc_grammar.specs.declared.statement.SignalForm.{SignalForm}
 use Rattle.dbc_grammar.specs.declared.statement.MessageForm.{MessageForm}
 use Rattle.dbc_grammar.specs.Naming.{Noted, is_first_message}
 use Rattle.dbc_grammar.specs.Gather.{AreEach, IsTooWide, AreSignalsOf, message_marks, message_links}
-use Rattle.dbc_grammar.specs.Contract.{IsFirstWide, all_signals}
+use Rattle.dbc_grammar.specs.Contract.{IsFirstWide}
 
 -- no scale is theirs; memory may run out
 abbrev pub HasNoScale : List ℕ → Scaling → NumberFault → Type 0
+HasNoScale text scaling number.Form = IsTooWide text scaling
 HasNoScale text scaling number.Wide = IsTooWide text scaling
 HasNoScale text scaling number.Memory = Unit {0}
 

@@ -57,6 +57,7 @@ fn signal_of(
 {
     let scale = match scale_of(alloc, bytes, form.scaling) {
         Ok(scale) => scale,
+        Err(NumberFault::Form) => return Err(DbcFault::Scale { at: form.at }),
         Err(NumberFault::Wide) => return Err(DbcFault::Scale { at: form.at }),
         Err(NumberFault::Memory) => return Err(DbcFault::Memory),
     };

@@ -1,15 +1,17 @@
--- Every text describes a database or has a fault, where each decimal text denotes a decimal within the limits or none.
+-- Every text describes a database or has a fault.
 use Rattle.std.proofs.Common.{◌≡◌, ◌∙◌, sym, refl, subst, arith, ℕ, zero, suc, ◌<◌, ◌≤◌, ◌⊎◌, inl, inr, Bool, true, false, List, [], ◌∷◌, length}
 use Rattle.std.specs.Prelude.{Option, Some, None, ℤ, max, nat_lt, replicate, unsigned_abs}
 use Rattle.std.proofs.lemmas.Bool.Decides.{nat_tests}
 use Rattle.exact_scale.specs.declared.scaling.Scale.{Scale}
-use Rattle.exact_scale.specs.Limits.{numerator_limit, numerator_over}
+use Rattle.exact_scale.specs.Limits as limits
+use Rattle.exact_scale.specs.Limits.{most_places, numerator_limit, numerator_over, IsNarrow}
+use Rattle.exact_scale.specs.Spelling.{Denotes}
 use Rattle.multiplex_tree.specs.Trees.{IsTreeOver}
 use Rattle.sig_text.specs.declared.token.Token.{Token}
 use Rattle.sig_text.specs.declared.fault.LexFault.{LexFault}
 use Rattle.sig_text.specs.Tokens.{IsTokens, IsLexFault}
 use Rattle.token_forms.specs.Pieces.{token_text}
-use Rattle.token_forms.specs.Numbers.{signed_text}
+use Rattle.token_forms.specs.Numbers.{signed_text, HasNoDecimal}
 use Rattle.token_forms.specs.Runs.{AreRun}
 use Rattle.bench_model.specs.declared.database.Entry.{Entry}
 use Rattle.bench_model.specs.declared.database.Entry.TheVariants as model
@@ -23,7 +25,7 @@ use Rattle.ldf_grammar.specs.Run.{after_first, place_of, HasStatements, IsCutSho
 use Rattle.ldf_grammar.specs.Scaling.{IsDecimalOf, IsScaling, HasNoScaling, text_in, unit_or_empty, IsEntryOf, IsTooWide, AreEach, IsFirstWithout}
 use Rattle.ldf_grammar.specs.Gather.{IsCoded, all_encodings, definitions_of, database_of}
 use Rattle.ldf_grammar.specs.Unknown.{first_unknown}
-use Rattle.ldf_grammar.specs.Described.{IsWideEncoding, IsRead, Makes, IsDatabaseOf, HasFault, IsDecided}
+use Rattle.ldf_grammar.specs.Described.{IsWideEncoding, IsRead, Makes, IsDatabaseOf, HasFault}
 use Rattle.ldf_grammar.specs.declared.statement.EncodingEntry.{EncodingEntry}
 use Rattle.ldf_grammar.specs.declared.statement.EncodingEntry.TheVariants.{Logical, Physical, Plain}
 use Rattle.ldf_grammar.specs.declared.statement.Encoding.{Encoding}
@@ -33,6 +35,14 @@ use Rattle.ldf_grammar.specs.declared.fault.LdfFault.TheVariants as faults
 use Rattle.ldf_grammar.proofs.ScaleLaws.{no_factor, no_offset, no_scale}
 use Rattle.ldf_grammar.proofs.MadeLaws.{all_made}
 use Rattle.ldf_grammar.proofs.OneLaws.{Below}
+
+-- whether a text denotes a decimal within the limits is decided
+abbrev pub IsDecided : List ℕ → Type 0
+IsDecided text = ((num : ℤ) × (places : ℕ) × IsDecimalOf text num places) ⊎ HasNoDecimal text
+
+pub decided_by : (text : List ℕ) → ((n : ℤ) × ((k : ℕ) × (Denotes text n k × (k ≤ most_places) × IsNarrow n))) ⊎ ((n : ℤ) (k : ℕ) → Denotes text n k → limits.IsTooWide n k) → IsDecided text
+decided_by text (inl (n, (k, (d, few, narrow)))) = inl (n, k, record { denotes = d; few_places = few; narrow = narrow })
+decided_by text (inr none) = inr none
 
 lt_cases : (m n : ℕ) → ((nat_lt m n ≡ true) × (m < n)) ⊎ ((nat_lt m n ≡ false) × (n ≤ m))
 lt_cases m n = grind (arith, nat_tests)

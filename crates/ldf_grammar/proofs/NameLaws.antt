@@ -19,7 +19,7 @@ use Rattle.ldf_grammar.specs.StatementForms.{mark_of, line_by, after_line, secti
 use Rattle.ldf_grammar.specs.Run.{after_first, behind_name, HasStatements}
 use Rattle.ldf_grammar.specs.Gather.{Definitions, definitions_of, first_of, signal_by, signal_in, message_of, messages_in, messages_of}
 use Rattle.ldf_grammar.specs.Described.{IsDatabaseOf}
-use Rattle.ldf_grammar.specs.Names.{HasNames}
+use Rattle.token_forms.specs.Names.{HasNames}
 use Rattle.ldf_grammar.specs.declared.section.Section.{Section}
 use Rattle.ldf_grammar.specs.declared.section.Section.TheVariants as sections
 use Rattle.ldf_grammar.specs.declared.skipping.Mark.{Mark}

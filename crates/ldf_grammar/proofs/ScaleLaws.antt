@@ -59,7 +59,8 @@ same_number (Ok x) e h = let f = h.0 in absurd cc
 same_number (Err s) e h = ap Err h.1
 
 number_on : (text : List ℕ) (e : NumberFault) (P : Type 0) → IsNoDecimal text e → (HasNoDecimal text → P) → IsWideNumber P e
-number_on text numbers.Wide P none to = to none
+number_on text numbers.Form P none to = to (λ num k d. absurd (none (d.spelling, d.spelled)))
+number_on text numbers.Wide P none to = to none.1
 number_on text numbers.Memory P none to = tt
 
 pub number_passes : {A : Type 0} (r : Result A NumberFault) (e : NumberFault) (text : List ℕ) (P : Type 0) → IsErr r × IsErrAnd r (λ s. s ≡ e) → IsNoDecimal text e

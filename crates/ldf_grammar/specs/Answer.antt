@@ -27,8 +27,9 @@ IsWideOrMemory Fails (faults.UnknownName at) = ⊥
 IsWideOrMemory Fails (faults.Check fault) = ⊥
 IsWideOrMemory Fails faults.Memory = Unit {0}
 
--- the number is too wide where this holds, or memory ran out
+-- the number is no decimal within the limits where this holds, or memory ran out
 abbrev pub IsWideNumber : Type 0 → NumberFault → Type 0
+IsWideNumber Fails numbers.Form = Fails
 IsWideNumber Fails numbers.Wide = Fails
 IsWideNumber Fails numbers.Memory = Unit {0}
 

@@ -1,12 +1,11 @@
 -- Which texts describe a database, and the one fault of each other text.
-use Rattle.std.specs.Prelude.{◌≡◌, ◌⊎◌, ℕ, ℤ, true, List, Some, None}
+use Rattle.std.specs.Prelude.{◌≡◌, ℕ, true, List, Some, None}
 use Rattle.sig_text.specs.Tokens.{IsLexFault}
-use Rattle.token_forms.specs.Numbers.{HasNoDecimal}
 use Rattle.bench_model.specs.declared.database.Entry.{Entry}
 use Rattle.bench_model.specs.declared.database.Database.{Database}
 use Rattle.bench_model.specs.Check.{IsValid, IsFirstFault}
 use Rattle.ldf_grammar.specs.Run.{HasStatements, IsStatementFault}
-use Rattle.ldf_grammar.specs.Scaling.{IsDecimalOf, IsEntryOf, IsTooWide, IsFirstWithout}
+use Rattle.ldf_grammar.specs.Scaling.{IsEntryOf, IsTooWide, IsFirstWithout}
 use Rattle.ldf_grammar.specs.Gather.{IsCoded, AreCoded, all_encodings, definitions_of, database_of}
 use Rattle.ldf_grammar.specs.Unknown.{first_unknown}
 use Rattle.ldf_grammar.specs.declared.statement.Encoding.{Encoding}
@@ -57,7 +56,3 @@ HasFault text (faults.Scale at) = IsScaleFault text at
 HasFault text (faults.UnknownName at) = IsNameFault text at
 HasFault text (faults.Check fault) = (database : Database) × Makes text database × IsFirstFault database fault
 HasFault text faults.Memory = ⊥
-
--- whether the text denotes a decimal within the limits is decided
-abbrev pub IsDecided : List ℕ → Type 0
-IsDecided text = ((num : ℤ) × (places : ℕ) × IsDecimalOf text num places) ⊎ HasNoDecimal text

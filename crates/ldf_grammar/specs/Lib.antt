@@ -8,7 +8,6 @@ pub mod Scaling
 pub mod Gather
 pub mod Unknown
 pub mod Described
-pub mod Names
 -- views of the code's types
 pub mod Gives
 pub mod Lookup

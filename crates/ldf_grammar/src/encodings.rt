@@ -110,6 +110,7 @@ fn entry_of(
                 scale,
                 unit: unit_of(alloc, bytes, utf8, *unit)?,
             }),
+            Err(NumberFault::Form) => Err(LdfFault::Scale { at: *at }),
             Err(NumberFault::Wide) => Err(LdfFault::Scale { at: *at }),
             Err(NumberFault::Memory) => Err(LdfFault::Memory),
         },

@@ -1,13 +1,14 @@
 //! Laws about the definitions that the contracts cite. They have no code of their own.
 
 ghost use Rattle.std.specs.Prelude.{◌≡◌, ◌⊎◌, ℕ, List};
+ghost use Rattle.decisions.specs.Decisions.{Decides};
 ghost use Rattle.bench_model.specs.declared.database.Database.{Database};
-ghost use Rattle.ldf_grammar.specs.Described.{IsDatabaseOf, HasFault, IsDecided};
-ghost use Rattle.ldf_grammar.specs.Names.{HasNames};
+ghost use Rattle.ldf_grammar.specs.Described.{IsDatabaseOf, HasFault};
+ghost use Rattle.token_forms.specs.Names.{HasNames};
 ghost use Rattle.ldf_grammar.specs.declared.fault.LdfFault.{LdfFault};
 
 use bench_model::{valid_keeps_rules, verdict_is_unique};
-use exact_scale::decimal_is_unique;
+use exact_scale::{a_decimal_text_denotes_one, decimal_is_unique};
 use multiplex_tree::signals_without_parents;
 use sig_text::reading_is_unique;
 
@@ -23,16 +24,24 @@ pub fn description_is_unique()
     verdict_is_unique();
 }
 
-/// A text describes a database or has a fault, given that of each text it is decided whether it denotes a decimal
-/// within the limits.
+/// Each text describes a database or has a fault.
 pub fn description_exists()
-    ensures { ((text : List ℕ) → IsDecided text) → (text : List ℕ) →
+    ensures { (text : List ℕ) →
         ((database : Database) × IsDatabaseOf text database) ⊎ ((fault : LdfFault) × HasFault text fault) }
 {
     reading_is_unique();
     decimal_is_unique();
+    a_decimal_text_denotes_one();
     verdict_is_unique();
     signals_without_parents();
+}
+
+/// Each text describes one database or has one fault, and never both.
+pub fn one_description_or_one_fault()
+    ensures { Decides IsDatabaseOf HasFault }
+{
+    description_exists();
+    description_is_unique();
 }
 
 /// The names of a described database's messages and signals are words of 1 to 128 bytes.

@@ -25,7 +25,9 @@ mod statement;
 mod unknown;
 
 pub use fault::LdfFault;
-pub use laws::{description_exists, description_is_unique, names_are_words};
+pub use laws::{
+    description_exists, description_is_unique, names_are_words, one_description_or_one_fault,
+};
 pub use read::read_ldf;
 pub use statement::{
     Encoding, EncodingEntry, Frame, FrameSignal, Representation, SignalLine, Statement,

@@ -1,0 +1,2 @@
+pub mod DecimalTextLaws
+pub mod RunLaws

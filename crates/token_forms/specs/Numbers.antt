@@ -1,6 +1,6 @@
 -- Numbers out of tokens, in the words of the DBC and LDF grammars: a whole number is digits alone, a signed number is
 -- a number without `0x` behind an optional `+` or `-` token.
-use Rattle.std.specs.Prelude.{◌≡◌, ℕ, ◌+◌, ◌^◌, ◌<◌, ◌||◌, ◌&&◌, not, ℤ, pos, neg_ℤ, Bool, true, false, List, [], ◌∷◌, ◌++◌, drop, Option, Some, None, slice_index, codes, nat_le, if◌then◌else◌}
+use Rattle.std.specs.Prelude.{ℕ, ◌||◌, ◌&&◌, ℤ, pos, neg_ℤ, Bool, false, List, [], ◌∷◌, ◌++◌, drop, Option, Some, None, codes, if◌then◌else◌}
 use Rattle.std.specs.Option.{option_map}
 use Rattle.std.specs.Str.{bytes_eq}
 use Rattle.exact_scale.specs.Spelling.{Denotes}

@@ -1,6 +1,6 @@
 -- What stands at the front of a list of tokens: a word or a sign that a grammar quotes, a name, a string. What is
 -- found is given with the tokens after it.
-use Rattle.std.specs.Prelude.{ℕ, ◌+◌, List, [], ◌∷◌, Option, Some, None, slice_range, if◌then◌else◌}
+use Rattle.std.specs.Prelude.{ℕ, List, [], ◌∷◌, Option, Some, None, slice_range, if◌then◌else◌}
 use Rattle.std.specs.Str.{bytes_eq}
 use Rattle.sig_text.specs.declared.token.TokenKind.{TokenKind}
 use Rattle.sig_text.specs.declared.token.TokenKind.TheVariants.{Word, Number, Str, Sign}

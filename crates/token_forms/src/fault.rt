@@ -8,6 +8,9 @@ use thiserror::Error;
 /// Why a signed number gives no decimal.
 #[derive(Clone, Copy, Debug, PartialEq, Eq, Error)]
 pub enum NumberFault {
+    /// The text is no decimal number, which a signed number among the tokens of a text always is.
+    #[error("not a decimal number")]
+    Form,
     /// The number needs more than thirty places, or a numerator of `2^62` or more.
     #[error("a decimal number past the limits")]
     Wide,

@@ -6,16 +6,19 @@
 //! `byte_forms`, decimals from `exact_scale`.
 //!
 //! Main theorem: each reader finds at the front of the tokens exactly what its form on lists says, and gives the tokens
-//! after it; the decimal of a signed number is the one that its sign and its digits denote.
+//! after it; the decimal of a signed number is the one that its sign and its digits denote, and each signed number denotes
+//! one.
 #![tactic(auto)]
 
 mod content;
 mod fault;
+mod laws;
 mod numbers;
 mod pieces;
 
 pub use content::string_content;
 pub use fault::NumberFault;
+pub use laws::{a_signed_number_is_a_decimal_text, one_longest_run};
 pub use numbers::{
     SignedNumber, decimal_of, digits_at, number_up_to_at, signed_at, whole_at, whole_value,
 };

@@ -137,12 +137,12 @@ fn decimal_in(text: &[u8]) -> Result<Decimal, NumberFault>
     decimal_is_unique();
     match Decimal::read(text) {
         Ok(decimal) => Ok(decimal),
-        Err(DecimalFault::Form) => Err(NumberFault::Wide),
+        Err(DecimalFault::Form) => Err(NumberFault::Form),
         Err(DecimalFault::Wide) => Err(NumberFault::Wide),
     }
 }
 
-/// The decimal that a signed number denotes.
+/// The decimal that a signed number denotes. For one that stands among the tokens of a text the fault is never `Form`.
 pub fn decimal_of(alloc: Global, bytes: &[u8], number: SignedNumber) -> Result<Decimal, NumberFault>
     ensures value { IfOk result (λ decimal. Denotes (signed_text bytes.now number) decimal.num decimal.k) }
     ensures narrow { IfOk result (λ decimal. (decimal.k ≤ most_places) × IsNarrow decimal.num) }

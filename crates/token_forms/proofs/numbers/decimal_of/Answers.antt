@@ -1,4 +1,4 @@
-use Rattle.std.proofs.Common.{◌≡◌, arith, subst, List, ℕ, IfErr}
+use Rattle.std.proofs.Common.{◌≡◌, arith, subst, IfErr}
 use Rattle.std.proofs.lemmas.Grind.{common_steps}
 use Rattle.token_forms.specs.Numbers.{signed_text}
 use Rattle.token_forms.specs.Outcomes.{IsNoDecimal}

@@ -1,4 +1,4 @@
--- The names of a database: words of an LDF.
+-- The names of a database that a reader makes of a text: words of the text.
 use Rattle.std.specs.Prelude.{ℕ, All, List}
 use Rattle.sig_text.specs.Spelling.{IsWord}
 use Rattle.bench_model.specs.Rules.{IsName}
