@@ -1,14 +1,12 @@
 -- What the steps of reading answer is the database of the bytes, or their fault.
-use Rattle.std.proofs.Common.{◌≡◌, ◌∙◌, sym, ap, subst, ℕ, List, [], ◌∷◌, Bool, false, refl, inl, inr, ◌⊎◌, Ok, Err, Result, IfOk, IfErr}
+use Rattle.std.proofs.Common.{◌≡◌, sym, subst, ℕ, List, Bool, false, refl, inl, inr, Ok, Err, Result, IfOk, IfErr}
 use Rattle.std.specs.Prelude.{IsTrue, IsUtf8, ◌↔◌}
-use Rattle.std.specs.List.{enumerate_from}
 use Rattle.bench_model.specs.declared.database.Database.{Database}
 use Rattle.bench_model.specs.declared.database.Message.{Message}
 use Rattle.bench_model.specs.declared.valid.Valid.{Valid}
 use Rattle.bench_model.specs.Check.{IsValid}
 use Rattle.sig_text.specs.declared.token.Token.{Token}
 use Rattle.sig_text.specs.Tokens.{IsTokens}
-use Rattle.token_forms.specs.Runs.{run_of}
 use Rattle.dbc_grammar.specs.declared.fault.DbcFault.{DbcFault}
 use Rattle.dbc_grammar.specs.declared.fault.DbcFault.TheVariants as faults
 use Rattle.dbc_grammar.specs.declared.row.Row.{Row}
@@ -16,11 +14,10 @@ use Rattle.dbc_grammar.specs.declared.statements.Kept.{Kept}
 use Rattle.dbc_grammar.specs.declared.statement.Note.{Note}
 use Rattle.dbc_grammar.specs.declared.statement.Statement.{Statement}
 use Rattle.dbc_grammar.specs.declared.statement.MessageForm.{MessageForm}
-use Rattle.dbc_grammar.specs.Forms.{statement_at}
 use Rattle.dbc_grammar.specs.Naming.{Noted, noted_in}
 use Rattle.dbc_grammar.specs.Gather.{messages_of, notes_of}
 use Rattle.dbc_grammar.specs.Contract.{AreStatements, Gathers, IsDatabaseOf, IsFirstWide, IsFirstTreeless, all_signals, IsFaultOrMemory}
-use Rattle.dbc_grammar.specs.Kept.{IsKeptOf, NamesFirst, StopsAt}
+use Rattle.dbc_grammar.specs.Kept.{IsKeptOf, StopsAt}
 use Rattle.dbc_grammar.specs.Rows.{IsWideFault, AreRowsOf}
 use Rattle.dbc_grammar.specs.Reads.{IsLexOrMemory, IsTreelessFault, AreMessagesOf, IsCheckOrMemory}
 use Rattle.dbc_grammar.proofs.WideLaws.{AreNarrow, rows_narrow}

@@ -11,3 +11,8 @@ pub mod MadeLaws
 pub mod DatabaseLaws
 pub mod UniqueLaws
 pub mod NeverLaws
+pub mod OneFaultLaws
+pub mod ExistLaws
+pub mod FormLaws
+pub mod NameLaws
+pub mod TakesLaws

@@ -1,6 +1,6 @@
 -- The database that statements make is one that `check` may judge.
-use Rattle.std.proofs.Common.{◌≡◌, ◌∙◌, sym, ap, subst, ℕ, zero, suc, ◌+◌, ◌<◌, ◌≤◌, ◌^◌, List, [], ◌∷◌, ◌++◌, length, get_or, Bool, true, false, cond, ◌&&◌, refl, arith, inl, inr, Option, Some, None, ℤ, pos, neg_ℤ}
-use Rattle.std.specs.Prelude.{All, nat_le}
+use Rattle.std.proofs.Common.{◌≡◌, ◌∙◌, sym, ap, subst, ℕ, suc, ◌+◌, ◌≤◌, List, [], ◌∷◌, length, Bool, ◌&&◌, refl, arith, inl, inr, Option, Some, None, ℤ, pos, neg_ℤ}
+use Rattle.std.specs.Prelude.{nat_le}
 use Rattle.std.specs.List.{flat_map, enumerate_from, AllByRecursion}
 use Rattle.std.specs.Option.{option_map}
 use Rattle.std.proofs.lemmas.Bool.{cases_Bool, and_parts}
@@ -13,10 +13,8 @@ use Rattle.multiplex_tree.specs.Fault.{IsTree}
 use Rattle.multiplex_tree.specs.Trees.{IsTreeOver}
 use Rattle.byte_forms.specs.declared.numerals.Radix.TheVariants.{Decimal}
 use Rattle.byte_forms.specs.Numerals.{number_up_to, number_of, is_numeral}
-use Rattle.bench_model.specs.declared.database.Label.{Label}
 use Rattle.bench_model.specs.declared.database.Signal.{Signal}
 use Rattle.bench_model.specs.declared.database.Message.{Message}
-use Rattle.bench_model.specs.declared.database.Coding.{Coding}
 use Rattle.bench_model.specs.Limits.{IsLabel, IsCoding, IsMade}
 use Rattle.sig_text.specs.declared.token.Token.{Token}
 use Rattle.token_forms.specs.Pieces.{token_text}
@@ -29,7 +27,7 @@ use Rattle.dbc_grammar.specs.declared.statement.ValueText.{ValueText}
 use Rattle.dbc_grammar.specs.declared.statement.SignalForm.{SignalForm}
 use Rattle.dbc_grammar.specs.declared.statement.MessageForm.{MessageForm}
 use Rattle.dbc_grammar.specs.Naming.{Noted, message_key, places_in, notes_on, is_first_message}
-use Rattle.dbc_grammar.specs.Gather.{AreEach, IsSignalOf, IsSignalAt, label_by, labels_of_text, labels_said, labels_in, message_marks, message_links}
+use Rattle.dbc_grammar.specs.Gather.{AreEach, IsSignalAt, label_by, labels_of_text, labels_said, labels_in, message_marks, message_links}
 use Rattle.dbc_grammar.specs.Contract.{IsMessageAt}
 use Rattle.dbc_grammar.proofs.RowLaws.{rec-append, rec-all}
 

@@ -1,5 +1,5 @@
 -- Bytes that have a database have no fault.
-use Rattle.std.proofs.Common.{◌≡◌, ◌∙◌, sym, ap, subst, ℕ, zero, suc, ◌+◌, List, [], ◌∷◌, ◌++◌, length, Bool, false, true, refl, arith, Option, ◌⊎◌, inl, inr, Ok, Err, Result, IsOkAnd, IfOk, IfErr}
+use Rattle.std.proofs.Common.{◌≡◌, ◌∙◌, sym, ap, subst, ℕ, ◌+◌, List, [], ◌∷◌, ◌++◌, length, Bool, false, arith, Option, ◌⊎◌, inl, inr, Ok, Err, Result, IsOkAnd, IfOk, IfErr}
 use Rattle.std.specs.Prelude.{IsErrOf}
 use Rattle.std.specs.List.{enumerate_from, AllByRecursion}
 use Rattle.multiplex_tree.specs.declared.mark.Mark.{Mark}
@@ -25,10 +25,10 @@ use Rattle.dbc_grammar.specs.declared.statement.Statement.{Statement}
 use Rattle.dbc_grammar.specs.Forms.{statement_at}
 use Rattle.dbc_grammar.specs.Naming.{Noted, noted_in, is_first_message}
 use Rattle.dbc_grammar.specs.Gather.{AreEach, IsTooWide, message_marks, message_links, messages_of, notes_of}
-use Rattle.dbc_grammar.specs.Contract.{IsMessageAt, HasSomeTree, IsFirstWide, IsFirstTreeless, all_signals, AreStatements, Gathers, IsDatabaseOf, HasFault, IsFaultOrMemory}
+use Rattle.dbc_grammar.specs.Contract.{IsMessageAt, HasSomeTree, IsFirstWide, IsFirstTreeless, all_signals, AreStatements, EndsEarly, Gathers, IsDatabaseOf, HasFault, IsFaultOrMemory}
 use Rattle.dbc_grammar.proofs.WideLaws.{AreNarrow, narrow-append, made_narrow}
 use Rattle.dbc_grammar.proofs.TreeLaws.{messages_have_trees}
-use Rattle.dbc_grammar.proofs.UniqueLaws.{OneDecimal, OneTree, OneReading, one_statements, one_gathered, one_database}
+use Rattle.dbc_grammar.proofs.UniqueLaws.{OneDecimal, OneTree, OneReading, one_statements, one_gathered}
 
 -- the laws of the layers below: what has the one has not the other
 abbrev pub NoLexFault : Type 0
@@ -51,7 +51,7 @@ messages_narrow text utf8 noted all n (f ∷ forms) (m ∷ messages) each =
     (messages_narrow text utf8 noted all (n + 1) forms messages each.1)
 
 -- what holds of all holds in the middle
-narrow_inside : (text : List ℕ) (before after : List SignalForm) (s : SignalForm) → AreNarrow text (before ++ s ∷ after) → ¬ IsTooWide text s.scaling
+pub narrow_inside : (text : List ℕ) (before after : List SignalForm) (s : SignalForm) → AreNarrow text (before ++ s ∷ after) → ¬ IsTooWide text s.scaling
 narrow_inside text [] after s narrow = narrow.0
 narrow_inside text (b ∷ before) after s narrow = narrow_inside text before after s narrow.1
 
@@ -60,14 +60,14 @@ tree_inside : (P : ℕ × MessageForm → Type 0) (n k : ℕ) (before after : Li
 tree_inside P n k [] after m e all = let same : n ≡ k = omega arith in subst (λ (i : ℕ). P (i, m)) same all.0
 tree_inside P n k (b ∷ before) after m e all = tree_inside P (n + 1) k before after m (omega arith) all.1
 
-no_wide : (text : List ℕ) (statements : List Statement) (d : Database) (at : ℕ) → Gathers text statements d →
+pub no_wide : (text : List ℕ) (statements : List Statement) (d : Database) (at : ℕ) → Gathers text statements d →
     ¬ IsFirstWide text (all_signals (messages_of statements)) at
 no_wide text statements d at g wide =
     narrow_inside text wide.before wide.after wide.signal
     (subst (λ (l : List SignalForm). AreNarrow text l) wide.cut
     (messages_narrow text g.utf8 (noted_in text (notes_of statements)) (messages_of statements) 0 (messages_of statements) d.messages g.messages)) wide.wide
 
-no_treeless : NoTreeFault → (text : List ℕ) (statements : List Statement) (d : Database) (id : ℕ) (name : List ℕ) (why : MuxWhy) → Gathers text statements d →
+pub no_treeless : NoTreeFault → (text : List ℕ) (statements : List Statement) (d : Database) (id : ℕ) (name : List ℕ) (why : MuxWhy) → Gathers text statements d →
     ¬ IsFirstTreeless text (noted_in text (notes_of statements)) (messages_of statements) id name why
 no_treeless never text statements d id name why g t =
     let noted = noted_in text (notes_of statements) in
@@ -80,15 +80,19 @@ no_treeless never text statements d id name why g t =
 nil_not_cons : (t : Token) (later : List Token) → ¬ ([] ≡ t ∷ later)
 nil_not_cons t later e = absurd cc
 
+-- where all statements are whole, no token is left
+pub not_early : OneReading → (bytes : List ℕ) (statements : List Statement) (at : ℕ) → AreStatements bytes statements → ¬ EndsEarly bytes at
+not_early reading bytes statements at are early =
+    let same = reading bytes false are.tokens early.tokens are.are_tokens early.are_tokens in
+    let none : [] ≡ (run_of (statement_at bytes) early.tokens).1 =
+    ap (λ (r : List Statement × List Token). r.1) (sym are.all) ∙ ap (λ (t : List Token). (run_of (statement_at bytes) t).1) same in
+    nil_not_cons early.token early.later (none ∙ early.rest)
+
 pub never_both : OneDecimal → OneTree → OneReading → NoLexFault → NoTreeFault → NoBrokenRule → (bytes : List ℕ) (d : Database) (fault : DbcFault) →
     IsDatabaseOf bytes d → ¬ HasFault bytes fault
 never_both once tree reading lex treeless rule bytes d (faults.Lex fault) is has =
     lex bytes false is.are_statements.tokens fault is.are_statements.are_tokens has
-never_both once tree reading lex treeless rule bytes d (faults.Statement at) is has =
-    let same = reading bytes false is.are_statements.tokens has.tokens is.are_statements.are_tokens has.are_tokens in
-    let none : [] ≡ (run_of (statement_at bytes) has.tokens).1 =
-    ap (λ (r : List Statement × List Token). r.1) (sym is.are_statements.all) ∙ ap (λ (t : List Token). (run_of (statement_at bytes) t).1) same in
-    nil_not_cons has.token has.later (none ∙ has.rest)
+never_both once tree reading lex treeless rule bytes d (faults.Statement at) is has = not_early reading bytes is.statements at is.are_statements has
 never_both once tree reading lex treeless rule bytes d (faults.Scale at) is has =
     let same = one_statements reading bytes has.statements is.statements has.are_statements is.are_statements in
     no_wide bytes is.statements d at is.gathered

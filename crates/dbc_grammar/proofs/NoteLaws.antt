@@ -1,5 +1,5 @@
 -- The map of notes has the notes on each signal, in file order.
-use Rattle.std.proofs.Common.{◌≡◌, ◌∙◌, sym, ap, ℕ, ◌+◌, ◌<◌, List, [], ◌∷◌, ◌++◌, length, get_or, take, Bool, true, false, ◌&&◌, cond, refl, Option, Some, None, map, append_assoc}
+use Rattle.std.proofs.Common.{◌≡◌, ◌∙◌, sym, ap, ℕ, ◌+◌, ◌<◌, List, [], ◌∷◌, ◌++◌, length, get_or, take, Bool, true, false, ◌&&◌, cond, refl, Option, Some, None}
 use Rattle.std.specs.Prelude.{if◌then◌else◌, Vec, filter}
 use Rattle.std.specs.Borrow.{Bor}
 use Rattle.std.specs.declared.alloc.Global.{Global}
@@ -7,7 +7,7 @@ use Rattle.std.specs.declared.cmp.Ordering.{Ordering}
 use Rattle.std.specs.declared.cmp.Ordering.TheVariants.{Less, Equal, Greater}
 use Rattle.std.specs.BTreeMap.{BTreeMap, get_by}
 use Rattle.std.specs.Str.{bytes_eq}
-use Rattle.std.specs.Ordering.{ordering_then, bool_cmp, nat_cmp, is_eq}
+use Rattle.std.specs.Ordering.{ordering_then, nat_cmp, is_eq}
 use Rattle.std.specs.Cmp.Lexicographic.{slice_cmp}
 use Rattle.std.proofs.lemmas.Bool.{and_parts}
 use Rattle.std.proofs.lemmas.List.{take_more, append-nil, map-append}
@@ -18,7 +18,7 @@ use Rattle.bench_model.specs.declared.database.Key.{Key}
 use Rattle.dbc_grammar.specs.declared.statement.Note.{Note}
 use Rattle.dbc_grammar.specs.Naming.{same_key}
 use Rattle.dbc_grammar.specs.Places.{key_order}
-use Rattle.dbc_grammar.specs.Noted.{seen_notes, listed, signal_order, notes_seen}
+use Rattle.dbc_grammar.specs.Noted.{seen_notes, listed, notes_seen}
 use Rattle.dbc_grammar.proofs.PlaceLaws.{same_order, at_same_key}
 
 is_eq-then : (a b : Ordering) → is_eq (ordering_then a b) ≡ (is_eq a && is_eq b)

@@ -1,7 +1,6 @@
 -- The maps of places have the first place of each key and of each name.
-use Rattle.std.proofs.Common.{◌≡◌, ◌∙◌, sym, ap, ℕ, ◌+◌, ◌<◌, List, [], ◌∷◌, ◌++◌, length, get_or, take, length-take, Bool, inl, inr, true, false, not, ◌||◌, ◌&&◌, cond, eqb, refl, arith, Option, Some, None}
+use Rattle.std.proofs.Common.{◌≡◌, ◌∙◌, sym, ap, ℕ, ◌+◌, ◌<◌, List, [], ◌∷◌, ◌++◌, length, get_or, take, length-take, Bool, inl, inr, true, false, ◌&&◌, cond, eqb, refl, arith, Option, Some, None}
 use Rattle.std.specs.Prelude.{if◌then◌else◌}
-use Rattle.std.specs.Borrow.{Bor}
 use Rattle.std.specs.List.{position_from}
 use Rattle.std.specs.Str.{bytes_eq}
 use Rattle.std.specs.Ordering.{ordering_then, bool_cmp, nat_cmp, is_eq}
@@ -14,7 +13,6 @@ use Rattle.bench_model.specs.declared.database.Key.{Key}
 use Rattle.bench_model.specs.Meaning.{same_bool}
 use Rattle.dbc_grammar.specs.Forms.{◌<|>◌}
 use Rattle.dbc_grammar.specs.Naming.{same_key}
-use Rattle.dbc_grammar.specs.Places.{key_order}
 
 same_number : (m n : ℕ) → is_eq (nat_cmp m n) ≡ eqb m n
 same_number m n = grind (arith, nat_tests)

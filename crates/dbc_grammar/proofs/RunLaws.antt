@@ -1,9 +1,9 @@
 -- A loop that reads one form after another has, with what is still ahead, the longest run of the form.
-use Rattle.std.proofs.Common.{◌≡◌, ℕ, ◌+◌, ◌-◌, ◌<◌, ◌≤◌, suc, List, [], ◌∷◌, ◌++◌, length, Option, Some, None, refl, sym, ap, ◌∙◌, append_assoc, arith}
+use Rattle.std.proofs.Common.{◌≡◌, ℕ, ◌+◌, ◌-◌, ◌<◌, ◌≤◌, suc, List, [], ◌∷◌, ◌++◌, Some, None, refl, sym, ap, ◌∙◌, append_assoc, arith}
 use Rattle.std.proofs.lemmas.List.{append-nil}
 use Rattle.std.specs.List.{flat_map}
 use Rattle.sig_text.specs.declared.token.Token.{Token}
-use Rattle.token_forms.specs.Runs.{Form, run_by, run_within, run_of}
+use Rattle.token_forms.specs.Runs.{Form, run_by, run_within}
 
 -- one step of a run that may take n forms, of which i were taken
 pub run_step : {A : Type 0} (form : Form A) (n i : ℕ) (tokens : List Token) → i < n →

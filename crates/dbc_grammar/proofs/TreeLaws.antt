@@ -1,5 +1,5 @@
 -- Messages out of statements and rows, and the first that has no tree.
-use Rattle.std.proofs.Common.{◌≡◌, ◌∙◌, sym, ap, subst, ℕ, ◌+◌, ◌<◌, ◌≤◌, List, [], ◌∷◌, ◌++◌, length, get_or, take, drop, suc, Bool, refl, arith, add-one}
+use Rattle.std.proofs.Common.{◌≡◌, ◌∙◌, sym, ap, subst, ℕ, ◌+◌, ◌<◌, List, [], ◌∷◌, ◌++◌, length, get_or, take, drop, suc, Bool, arith, add-one}
 use Rattle.std.specs.List.{enumerate_from, AllByRecursion}
 use Rattle.std.proofs.Math.Seq.{drop-cons}
 use Rattle.std.proofs.lemmas.List.{length-take}
@@ -13,9 +13,9 @@ use Rattle.dbc_grammar.specs.declared.fault.DbcFault.TheVariants as faults
 use Rattle.dbc_grammar.specs.declared.row.Row.{Row}
 use Rattle.dbc_grammar.specs.declared.statement.MessageForm.{MessageForm}
 use Rattle.dbc_grammar.specs.Naming.{Noted, is_first_message}
-use Rattle.dbc_grammar.specs.Gather.{AreEach, AreSignalsOf, message_marks, message_links}
-use Rattle.dbc_grammar.specs.Contract.{IsMessageAt, HasTree, HasSomeTree}
-use Rattle.dbc_grammar.specs.Rows.{IsRowOf, IsRowAt}
+use Rattle.dbc_grammar.specs.Gather.{AreEach, AreSignalsOf, message_marks}
+use Rattle.dbc_grammar.specs.Contract.{IsMessageAt, HasSomeTree}
+use Rattle.dbc_grammar.specs.Rows.{IsRowAt}
 use Rattle.dbc_grammar.specs.Reads.{IsMessageOf, IsTreeFault, IsTreelessFault}
 use Rattle.dbc_grammar.proofs.ListLaws.{each_more, enumerated_more}
 use Rattle.dbc_grammar.proofs.WideLaws.{cut_at}

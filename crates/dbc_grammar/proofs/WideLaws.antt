@@ -1,6 +1,6 @@
 -- Where the signals so far have scales and the next one has none, it is the first that is too wide.
-use Rattle.std.proofs.Common.{◌≡◌, ◌∙◌, sym, ap, subst, ℕ, ◌+◌, ◌<◌, List, [], ◌∷◌, ◌++◌, length, get_or, take, drop, Bool, refl, append_assoc, arith, add-one}
-use Rattle.std.specs.List.{flat_map, enumerate_from, AllByRecursion}
+use Rattle.std.proofs.Common.{◌≡◌, ◌∙◌, sym, ap, subst, ℕ, ◌+◌, ◌<◌, List, [], ◌∷◌, ◌++◌, length, get_or, take, drop, Bool, append_assoc, add-one}
+use Rattle.std.specs.List.{enumerate_from, AllByRecursion}
 use Rattle.std.proofs.Math.Seq.{drop-cons}
 use Rattle.std.proofs.lemmas.List.{take-append-drop}
 use Rattle.std.proofs.lemmas.Grind.{flat_map-append}
@@ -12,7 +12,7 @@ use Rattle.dbc_grammar.specs.declared.statement.SignalForm.{SignalForm}
 use Rattle.dbc_grammar.specs.declared.statement.MessageForm.{MessageForm}
 use Rattle.dbc_grammar.specs.Naming.{Noted}
 use Rattle.dbc_grammar.specs.Gather.{AreEach, IsTooWide, IsSignalAt}
-use Rattle.dbc_grammar.specs.Contract.{IsFirstWide, all_signals}
+use Rattle.dbc_grammar.specs.Contract.{all_signals}
 use Rattle.dbc_grammar.specs.Rows.{IsWideAt, IsWideFault, IsRowAt}
 
 -- signals each of which is not too wide

@@ -1,12 +1,11 @@
 -- The database of a text, and the fault of any other.
-use Rattle.std.specs.Prelude.{◌≡◌, ℕ, ◌+◌, ◌<◌, ◌↔◌, ◌⊎◌, Bool, true, false, IsTrue, IsUtf8, List, [], ◌∷◌, ◌++◌, length, take, slice_get, Option, Some, None, if◌then◌else◌}
+use Rattle.std.specs.Prelude.{◌≡◌, ℕ, ◌+◌, ◌↔◌, ◌⊎◌, Bool, false, IsTrue, IsUtf8, List, [], ◌∷◌, ◌++◌, length, slice_get, Option, Some, if◌then◌else◌}
 use Rattle.std.specs.List.{flat_map, enumerate_from, AllByRecursion}
 use Rattle.multiplex_tree.specs.declared.fault.MuxWhy.{MuxWhy}
 use Rattle.multiplex_tree.specs.declared.fault.MuxFault.TheVariants as mux
 use Rattle.multiplex_tree.specs.declared.mark.Parent.{Parent}
 use Rattle.multiplex_tree.specs.Fault.{IsTree, IsFault}
 use Rattle.bench_model.specs.declared.database.Key.{Key}
-use Rattle.bench_model.specs.declared.database.Signal.{Signal}
 use Rattle.bench_model.specs.declared.database.Message.{Message}
 use Rattle.bench_model.specs.declared.database.Database.{Database}
 use Rattle.bench_model.specs.Check.{IsValid, IsFirstFault}
@@ -17,7 +16,6 @@ use Rattle.token_forms.specs.Runs.{run_of}
 use Rattle.dbc_grammar.specs.declared.fault.DbcFault.{DbcFault}
 use Rattle.dbc_grammar.specs.declared.fault.DbcFault.TheVariants as faults
 use Rattle.dbc_grammar.specs.declared.statement.Statement.{Statement}
-use Rattle.dbc_grammar.specs.declared.statement.Note.{Note}
 use Rattle.dbc_grammar.specs.declared.statement.SignalForm.{SignalForm}
 use Rattle.dbc_grammar.specs.declared.statement.MessageForm.{MessageForm}
 use Rattle.dbc_grammar.specs.Forms.{statement_at}

@@ -1,6 +1,6 @@
 -- The statements of the DBC format as forms over tokens, one for each row of its table: what stands at the front of
 -- the tokens, and the tokens after it. A quoted text is a token of these bytes; words that are kept are tokens.
-use Rattle.std.specs.Prelude.{◌≡◌, ℕ, ◌+◌, ◌-◌, ◌<◌, ◌==◌, ◌||◌, ◌&&◌, Bool, true, false, List, [], ◌∷◌, length, take, slice_index, Option, Some, None, codes, nat_le, nat_lt, if◌then◌else◌}
+use Rattle.std.specs.Prelude.{ℕ, ◌-◌, ◌==◌, ◌||◌, ◌&&◌, Bool, true, false, List, [], ◌∷◌, length, take, slice_index, Option, Some, None, codes, nat_le, nat_lt, if◌then◌else◌}
 use Rattle.std.specs.Option.{option_map}
 use Rattle.std.specs.Str.{bytes_eq}
 use Rattle.byte_forms.specs.declared.numerals.Radix.TheVariants.{Decimal}

@@ -1,5 +1,5 @@
 -- The messages that statements make, but for their trees.
-use Rattle.std.specs.Prelude.{◌≡◌, ℕ, ℤ, ◌+◌, ◌<◌, ◌==◌, not, Bool, true, false, max, List, [], ◌∷◌, ◌++◌, map, Option, Some, None, nat_lt, if◌then◌else◌, IsTrue, ◌↔◌, IsUtf8}
+use Rattle.std.specs.Prelude.{◌≡◌, ℕ, ℤ, ◌==◌, Bool, false, max, List, [], ◌∷◌, map, Option, Some, None, nat_lt, if◌then◌else◌}
 use Rattle.std.specs.List.{flat_map, enumerate_from}
 use Rattle.exact_scale.specs.declared.scaling.Scale.{Scale}
 use Rattle.exact_scale.specs.Spelling.{Denotes}

@@ -1,8 +1,7 @@
 -- What the steps of reading answer.
-use Rattle.std.specs.Prelude.{◌≡◌, ℕ, Bool, false, List, Option, Some, None, slice_get}
+use Rattle.std.specs.Prelude.{◌≡◌, ℕ, Bool, false, List, Some, slice_get}
 use Rattle.std.specs.List.{enumerate_from}
 use Rattle.multiplex_tree.specs.declared.fault.MuxWhy.{MuxWhy}
-use Rattle.multiplex_tree.specs.declared.fault.MuxFault.{MuxFault}
 use Rattle.multiplex_tree.specs.declared.fault.MuxFault.TheVariants as mux
 use Rattle.multiplex_tree.specs.declared.mark.Mark.{Mark}
 use Rattle.multiplex_tree.specs.declared.mark.Link.{Link}

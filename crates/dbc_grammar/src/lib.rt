@@ -4,8 +4,8 @@
 //! on `sig_text` and `token_forms` (tokens, and what readers of statements share), `exact_scale` (scalings),
 //! `multiplex_tree` (trees of signals) and `bench_model` (databases and their rules); the loaders of a bench call it.
 //!
-//! Main theorem: what `read_dbc` answers is the database of the bytes, or a fault that they have and none of an earlier
-//! kind; bytes have one database at most, and where they have one it is answered, unless memory runs out.
+//! Main theorem: all bytes have exactly one database or exactly one fault, a fault being one before which there is none of
+//! an earlier kind; `read_dbc` answers the one or the other, unless memory runs out.
 #![tactic(auto)]
 
 mod fault;
@@ -28,7 +28,10 @@ mod values;
 mod words;
 
 pub use fault::DbcFault;
-pub use laws::database_is_unique;
+pub use laws::{
+    database_exists, database_is_unique, names_are_words, one_database_or_one_fault,
+    statements_are_the_longest_run,
+};
 pub use read::read_dbc;
 
 #[cfg(test)]

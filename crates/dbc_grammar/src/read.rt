@@ -9,7 +9,8 @@ ghost use Rattle.dbc_grammar.specs.declared.fault.DbcFault.TheVariants.{Memory};
 ghost use Rattle.bench_model.specs.Limits.{IsMadeDatabase};
 ghost use Rattle.bench_model.specs.Check.{IsValid};
 ghost use Rattle.sig_text.specs.Tokens.{IsTokens};
-ghost use Rattle.dbc_grammar.specs.Contract.{IsDatabaseOf, IsFaultOrMemory};
+ghost use Rattle.dbc_grammar.specs.declared.fault.DbcFault.{DbcFault as AnyFault};
+ghost use Rattle.dbc_grammar.specs.Contract.{IsDatabaseOf, HasFault, IsFaultOrMemory};
 ghost use Rattle.sig_text.specs.declared.token.Token.{Token};
 ghost use Rattle.dbc_grammar.specs.Kept.{IsKeptOf};
 ghost use Rattle.dbc_grammar.specs.Naming.{Noted};
@@ -183,9 +184,11 @@ pub fn read_dbc(alloc: Global, bytes: &[u8]) -> Result<Valid, DbcFault>
     ensures ok { IfOk result (λ valid. IsDatabaseOf bytes.now valid.database) }
     ensures fault { IfErr result (IsFaultOrMemory bytes.now) }
 
-    // The database that the bytes have is answered, unless memory runs out.
+    // What is true of the bytes is answered, unless memory runs out.
     ensures every_database { (d : Database) → IsDatabaseOf bytes.now d →
         IsOkAnd result (λ valid. valid.database ≡ d) ⊎ IsErrOf result Memory }
+    ensures every_fault { (fault : AnyFault) → HasFault bytes.now fault →
+        IsErrOf result fault ⊎ IsErrOf result Memory }
 {
     let read = read_text(alloc, bytes);
     database_is_unique();

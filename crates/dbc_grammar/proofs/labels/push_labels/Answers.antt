@@ -1,4 +1,3 @@
-use Rattle.std.proofs.Common.{◌≡◌}
 use Rattle.dbc_grammar.specs.Gather.{labels_of_text}
 use Rattle.dbc_grammar.proofs.ListLaws.{appended_more}
 use Rattle.dbc_grammar.proofs.labels.push_labels.Goals as goal

@@ -1,4 +1,4 @@
-use Rattle.std.proofs.Common.{◌≡◌, ◌-◌, length}
+use Rattle.std.proofs.Common.{◌-◌, length}
 use Rattle.token_forms.specs.Runs.{run_of}
 use Rattle.dbc_grammar.specs.Forms.{signal_at}
 use Rattle.dbc_grammar.proofs.RunLaws.{IsAhead}

@@ -1,4 +1,4 @@
-use Rattle.std.proofs.Common.{◌≡◌, ◌∙◌, sym, ap, subst, ◌+◌, ◌-◌, length}
+use Rattle.std.proofs.Common.{◌∙◌, sym, ap, subst, ◌+◌, ◌-◌, length}
 use Rattle.token_forms.specs.Runs.{run_of, put_first}
 use Rattle.dbc_grammar.specs.Forms.{more_range_at}
 use Rattle.dbc_grammar.proofs.RunLaws.{IsAhead, one_taken, none_follows, all_taken}

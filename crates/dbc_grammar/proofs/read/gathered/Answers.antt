@@ -1,4 +1,4 @@
-use Rattle.std.proofs.Common.{◌≡◌, List, subst}
+use Rattle.std.proofs.Common.{List, subst}
 use Rattle.bench_model.specs.declared.database.Database.{Database}
 use Rattle.bench_model.specs.Limits.{IsMade}
 use Rattle.dbc_grammar.specs.declared.statement.MessageForm.{MessageForm}

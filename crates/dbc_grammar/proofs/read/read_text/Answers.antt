@@ -1,5 +1,4 @@
-use Rattle.std.proofs.Common.{◌≡◌}
-use Rattle.dbc_grammar.proofs.DatabaseLaws.{lex_read, stop_read}
+use Rattle.dbc_grammar.proofs.DatabaseLaws.{lex_read}
 use Rattle.dbc_grammar.proofs.read.read_text.Goals as goal
 
 pub returns-in-Err-clause-fault : goal.returns-in-Err-clause-fault

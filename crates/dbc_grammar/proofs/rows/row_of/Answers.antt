@@ -1,8 +1,8 @@
-use Rattle.std.proofs.Common.{◌≡◌, ◌∙◌, sym, ap, subst, ◌+◌, ◌<◌, ◌≤◌, length, List, ℕ, map, take, get_or, arith}
+use Rattle.std.proofs.Common.{◌≡◌, ◌∙◌, ap, subst, ◌≤◌, length, List, map, take}
 use Rattle.std.proofs.lemmas.List.{take_all}
 use Rattle.std.specs.List.{flat_map, enumerate_from}
 use Rattle.dbc_grammar.specs.declared.statement.SignalForm.{SignalForm}
-use Rattle.dbc_grammar.specs.Gather.{message_marks, message_links, signal_links, IsSignalAt}
+use Rattle.dbc_grammar.specs.Gather.{signal_links}
 use Rattle.dbc_grammar.specs.Naming.{places_in, place_of_name}
 use Rattle.dbc_grammar.specs.Noted.{seen_notes, notes_seen}
 use Rattle.dbc_grammar.specs.Places.{signal_place}

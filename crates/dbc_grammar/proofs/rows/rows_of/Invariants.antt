@@ -1,4 +1,4 @@
-use Rattle.std.proofs.Common.{◌≡◌, take}
+use Rattle.std.proofs.Common.{take}
 use Rattle.std.specs.List.{enumerate_from}
 use Rattle.dbc_grammar.specs.Gather.{AreEach}
 use Rattle.dbc_grammar.specs.Naming.{noted_in}

@@ -1,4 +1,4 @@
-use Rattle.std.proofs.Common.{◌≡◌, sym, length}
+use Rattle.std.proofs.Common.{sym, length}
 use Rattle.token_forms.specs.Runs.{run_of}
 use Rattle.dbc_grammar.specs.Forms.{receiver_at}
 use Rattle.dbc_grammar.proofs.RunLaws.{rest_taken, rest_follows, rest_left}

@@ -1,4 +1,4 @@
-use Rattle.std.proofs.Common.{◌≡◌, ◌∙◌, sym, ap, length}
+use Rattle.std.proofs.Common.{◌∙◌, sym, ap, length}
 use Rattle.token_forms.specs.Runs.{run_of}
 use Rattle.token_forms.specs.Views.{found_view}
 use Rattle.dbc_grammar.specs.Forms.{statement_at}

@@ -1,4 +1,4 @@
-use Rattle.std.proofs.Common.{◌≡◌, ◌∙◌, sym, ap, subst, ◌+◌, ◌-◌, length}
+use Rattle.std.proofs.Common.{◌∙◌, sym, ap, subst, ◌+◌, ◌-◌, length}
 use Rattle.token_forms.specs.Runs.{run_of}
 use Rattle.dbc_grammar.specs.Forms.{value_text_at}
 use Rattle.dbc_grammar.proofs.RunLaws.{IsAhead, one_taken, none_follows, all_taken}

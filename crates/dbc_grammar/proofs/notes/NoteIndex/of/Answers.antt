@@ -1,4 +1,4 @@
-use Rattle.std.proofs.Common.{◌≡◌, ◌∙◌, ap, ◌++◌, ◌∷◌, []}
+use Rattle.std.proofs.Common.{◌∙◌, ap, ◌++◌, ◌∷◌, []}
 use Rattle.std.specs.Prelude.{filter}
 use Rattle.dbc_grammar.specs.Naming.{names_signal}
 use Rattle.dbc_grammar.specs.Noted.{notes_seen}

@@ -1,4 +1,4 @@
-use Rattle.std.proofs.Common.{◌≡◌, ◌∙◌, ap, cond, Option, None, ℕ, Bool, List}
+use Rattle.std.proofs.Common.{◌∙◌, ap, cond, None, ℕ, Bool, List}
 use Rattle.std.specs.Borrow.{Bor}
 use Rattle.std.specs.BTreeMap.{get_by}
 use Rattle.dbc_grammar.specs.Noted.{signal_order}
