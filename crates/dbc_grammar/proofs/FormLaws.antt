@@ -16,15 +16,13 @@ use Rattle.sig_text.specs.declared.token.TokenKind.TheVariants.{Word, Number, St
 use Rattle.token_forms.specs.Pieces.{token_text, literal_at, word_at, word_by, number_at, number_by, string_at, string_by}
 use Rattle.token_forms.specs.Numbers.{whole_at, digits_at, signed_at, after_sign, is_sign_token, is_hexadecimal}
 use Rattle.token_forms.specs.Runs.{Form, run_by, run_within, run_of}
-use Rattle.dbc_grammar.specs.declared.passed.Passed.{Passed}
-use Rattle.dbc_grammar.specs.declared.passed.Passed.TheVariants.{Symbols, Nodes, ToSemicolon, Lenient}
 use Rattle.dbc_grammar.specs.declared.statement.Statement.{Statement}
 use Rattle.dbc_grammar.specs.declared.statement.Statement.TheVariants as statement
 use Rattle.dbc_grammar.specs.declared.statement.SignalForm.{SignalForm}
 use Rattle.dbc_grammar.specs.declared.statement.Heading.{Heading}
 use Rattle.dbc_grammar.specs.declared.statement.MessageForm.{MessageForm}
 use Rattle.dbc_grammar.specs.Words.{is_free_word, is_among, unkept_words}
-use Rattle.dbc_grammar.specs.Passed.{is_passed, pass}
+use Rattle.dbc_grammar.specs.Passed.{is_symbol, is_before_semicolon, is_before_statement, pass}
 use Rattle.dbc_grammar.specs.Forms.{◌<|>◌, optional, small_limit, small_at, version_at, symbols_at, rate_at, timing_at, nodes_at}
 use Rattle.dbc_grammar.specs.Forms.{other_at, value_text_at, variable_texts_at, lenient_texts_at, unkept_at, mark_of, mark_by, mark_at}
 use Rattle.dbc_grammar.specs.Forms.{with_rest, order_at, signedness_at, place_at, scaling_at, limits_at, node_at, receiver_at}
@@ -89,8 +87,8 @@ module _ (Left : List Token → Type 0) (Told : Token → Type 0) (kept : IsInhe
   dropped text (suc n) [] of = of
   dropped text (suc n) (token ∷ tokens) of = dropped text n tokens (kept.tail token tokens of)
 
-  pub pass_of : (text : List ℕ) (sort : Passed) (tokens : List Token) → Left tokens → Left (pass sort text tokens)
-  pass_of text sort tokens of = dropped text (prefix_len (is_passed sort text) tokens) tokens of
+  pub pass_of : (text : List ℕ) (is_passed : Token → Bool) (tokens : List Token) → Left tokens → Left (pass is_passed tokens)
+  pass_of text is_passed tokens of = dropped text (prefix_len is_passed tokens) tokens of
 
   -- what is known of the tokens at whose front a form begins
   abbrev pub Behind : List Token → Type 0
@@ -219,7 +217,7 @@ module _ (Left : List Token → Type 0) (Told : Token → Type 0) (kept : IsInhe
   unfolding symbols_at
   symbols_of text tokens of =
       bound Left Left (literal_at text (codes "NS_") tokens) _ (literal_first text (codes "NS_") tokens of) (λ rest r.
-      bound Left Left (literal_at text (codes ":") rest) _ (literal_of text (codes ":") rest r) (λ after a. pass_of text Symbols after a))
+      bound Left Left (literal_at text (codes ":") rest) _ (literal_of text (codes ":") rest r) (λ after a. pass_of text (is_symbol text) after a))
 
   rate_of : (text : List ℕ) (tokens : List Token) → Left tokens → IfFound Left (rate_at text tokens)
   unfolding rate_at
@@ -241,14 +239,14 @@ module _ (Left : List Token → Type 0) (Told : Token → Type 0) (kept : IsInhe
   unfolding nodes_at
   nodes_of text tokens of =
       bound Left Left (literal_at text (codes "BU_") tokens) _ (literal_first text (codes "BU_") tokens of) (λ rest r.
-      bound Left Left (literal_at text (codes ":") rest) _ (literal_of text (codes ":") rest r) (λ after a. pass_of text Nodes after a))
+      bound Left Left (literal_at text (codes ":") rest) _ (literal_of text (codes ":") rest r) (λ after a. pass_of text (is_free_word text) after a))
 
   other_of : (text : List ℕ) (tokens : List Token) → Behind tokens → IfFound Left (other_at text tokens)
   unfolding other_at
   other_of text tokens of =
       bound IsWordBefore Left (word_at tokens) _ (word_first text tokens of) (λ word w.
-      where_true Left (is_among (token_text text word.0) unkept_words) (literal_at text (codes ";") (pass ToSemicolon text word.1)) None
-      (literal_of text (codes ";") (pass ToSemicolon text word.1) (pass_of text ToSemicolon word.1 w.1)) tt)
+      where_true Left (is_among (token_text text word.0) unkept_words) (literal_at text (codes ";") (pass (is_before_semicolon text) word.1)) None
+      (literal_of text (codes ";") (pass (is_before_semicolon text) word.1) (pass_of text (is_before_semicolon text) word.1 w.1)) tt)
 
   value_text_of : (text : List ℕ) (tokens : List Token) → Left tokens → IfFound Leaves (value_text_at text tokens)
   unfolding value_text_at
@@ -268,7 +266,7 @@ module _ (Left : List Token → Type 0) (Told : Token → Type 0) (kept : IsInhe
   unfolding lenient_texts_at
   lenient_texts_of text tokens of =
       bound Left Left (literal_at text (codes "VAL_") tokens) _ (literal_first text (codes "VAL_") tokens of) (λ rest r.
-      literal_of text (codes ";") (pass Lenient text rest) (pass_of text Lenient rest r))
+      literal_of text (codes ";") (pass (is_before_statement text) rest) (pass_of text (is_before_statement text) rest r))
 
   unkept_of : (text : List ℕ) (tokens : List Token) → Behind tokens → IfFound Left (unkept_at text tokens)
   unfolding unkept_at

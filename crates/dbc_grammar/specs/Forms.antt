@@ -24,9 +24,8 @@ use Rattle.dbc_grammar.specs.declared.statement.Scaling.{Scaling}
 use Rattle.dbc_grammar.specs.declared.statement.SignalForm.{SignalForm}
 use Rattle.dbc_grammar.specs.declared.statement.Heading.{Heading}
 use Rattle.dbc_grammar.specs.declared.statement.MessageForm.{MessageForm}
-use Rattle.dbc_grammar.specs.declared.passed.Passed.TheVariants.{Symbols, Nodes, ToSemicolon, Lenient}
 use Rattle.dbc_grammar.specs.Words.{is_free_word, is_among, unkept_words}
-use Rattle.dbc_grammar.specs.Passed.{pass}
+use Rattle.dbc_grammar.specs.Passed.{is_symbol, is_before_semicolon, is_before_statement, pass}
 
 -- the first of two that is there
 infixr 10 ◌<|>◌
@@ -63,7 +62,7 @@ unfoldable pub symbols_at : List ℕ → List Token → Option (List Token)
 symbols_at text tokens = do
   rest ← literal_at text (codes "NS_") tokens
   rest ← literal_at text (codes ":") rest
-  Some (pass Symbols text rest)
+  Some (pass (is_symbol text) rest)
 
 -- digits : digits , digits
 unfoldable pub rate_at : List ℕ → List Token → Option (List Token)
@@ -87,13 +86,13 @@ unfoldable pub nodes_at : List ℕ → List Token → Option (List Token)
 nodes_at text tokens = do
   rest ← literal_at text (codes "BU_") tokens
   rest ← literal_at text (codes ":") rest
-  Some (pass Nodes text rest)
+  Some (pass (is_free_word text) rest)
 
 -- one of the words whose statements are not kept, any tokens but ; and ;
 unfoldable pub other_at : List ℕ → List Token → Option (List Token)
 other_at text tokens = do
   word ← word_at tokens
-  if is_among (token_text text word.0) unkept_words then literal_at text (codes ";") (pass ToSemicolon text word.1) else None
+  if is_among (token_text text word.0) unkept_words then literal_at text (codes ";") (pass (is_before_semicolon text) word.1) else None
 
 -- a signed number and a Str
 unfoldable pub value_text_at : List ℕ → List Token → Option (ValueText × List Token)
@@ -113,7 +112,7 @@ variable_texts_at text tokens = do
 unfoldable pub lenient_texts_at : List ℕ → List Token → Option (List Token)
 lenient_texts_at text tokens = do
   rest ← literal_at text (codes "VAL_") tokens
-  literal_at text (codes ";") (pass Lenient text rest)
+  literal_at text (codes ";") (pass (is_before_statement text) rest)
 
 -- the statements of which nothing is kept
 unfoldable pub unkept_at : List ℕ → List Token → Option (List Token)

@@ -7,6 +7,7 @@ pub mod Gather
 pub mod Contract
 -- how values of the code are seen
 pub mod Views
+pub mod Sorts
 pub mod Kept
 pub mod Places
 pub mod Noted

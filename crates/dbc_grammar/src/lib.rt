@@ -33,6 +33,9 @@ pub use laws::{
     statements_are_the_longest_run,
 };
 pub use read::read_dbc;
+pub use statement::{
+    Heading, MessageForm, Note, Place, Says, Scaling, SignalForm, Statement, ValueText,
+};
 
 #[cfg(test)]
 mod tests;

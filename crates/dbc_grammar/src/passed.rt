@@ -2,7 +2,8 @@
 
 ghost use Rattle.std.specs.Prelude.{◌≡◌, ◌≤◌, length};
 ghost use Rattle.std.specs.List.{prefix_len};
-ghost use Rattle.dbc_grammar.specs.Passed.{is_semicolon, ends_symbols, is_passed, pass};
+ghost use Rattle.dbc_grammar.specs.Passed.{is_semicolon, ends_symbols, pass};
+ghost use Rattle.dbc_grammar.specs.Sorts.{is_passed};
 
 use crate::words::{is_free_word, is_statement_word, is_word_kind};
 use sig_text::Token;
@@ -63,7 +64,7 @@ fn passed_len(sort: Passed, bytes: &[u8], tokens: &[Token]) -> usize
 
 /// The tokens after all of the sort at the front.
 pub fn pass<'a>(sort: Passed, bytes: &[u8], tokens: &'a [Token]) -> &'a [Token]
-    ensures { result.now ≡ pass sort bytes.now tokens.now }
+    ensures { result.now ≡ pass (is_passed sort bytes.now) tokens.now }
 {
     &tokens[passed_len(sort, bytes, tokens)..]
 }

@@ -4,8 +4,8 @@ use Rattle.std.specs.Prelude.{Option, Some, None, codes}
 use Rattle.sig_text.specs.declared.token.Token.{Token}
 use Rattle.ldf_grammar.specs.Sizes.{greatest_number, most_bits, last_identifier, most_bytes, last_offset}
 use Rattle.ldf_grammar.specs.LineForms.{next_word, next_number, next_signed, array_value, number_value, initial_value, signal_size, signal_line, frame_signal, frame_id, frame_length, frame, string_end, plain_end, last_string, logical, physical, entry_by, entry, word_before, encoding, representation}
-use Rattle.ldf_grammar.specs.declared.entry.EntryKind.{EntryKind}
-use Rattle.ldf_grammar.specs.declared.entry.EntryKind.TheVariants as kinds
+use Rattle.ldf_grammar.specs.Sizes as kinds
+use Rattle.ldf_grammar.specs.Sizes.{EntryKind}
 use Rattle.ldf_grammar.specs.declared.statement.Frame.{Frame}
 use Rattle.ldf_grammar.specs.declared.statement.FrameSignal.{FrameSignal}
 use Rattle.ldf_grammar.specs.declared.statement.EncodingEntry.TheVariants.{Plain}

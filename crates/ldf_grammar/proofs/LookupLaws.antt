@@ -1,5 +1,5 @@
 -- The first value of a name in a list is that of its parts, one after another.
-use Rattle.std.proofs.Common.{◌≡◌, ◌∙◌, sym, ap, refl, ℕ, Bool, true, false, cond, List, [], ◌∷◌, ◌++◌}
+use Rattle.std.proofs.Common.{◌≡◌, ◌∙◌, sym, ap, subst, refl, ℕ, Bool, true, false, cond, List, [], ◌∷◌, ◌++◌}
 use Rattle.std.specs.Prelude.{Option, Some, None, if◌then◌else◌}
 use Rattle.std.specs.Borrow.{Bor}
 use Rattle.std.specs.Option.{option_map}
@@ -37,28 +37,23 @@ first_of-nil : {T : Type 0} (name : List ℕ) → first_of {T = T} name [] ≡ N
 unfolding first_of
 first_of-nil name = refl
 
--- a name that is there keeps its value
-kept_at : {T : Type 0} (m : BTreeMap (Bor (List ℕ)) T) (name other : List ℕ) (x v : T) (b : Bool) → Some x ≡ value_at m name → (b ≡ true → name ≡ other)
-    → value_at m other ≡ or_else (value_at m other) (if b then Some v else None)
-kept_at m name other x v true e same = rw (← same refl, ← e) refl
-kept_at m name other x v false e same = sym (or_none (value_at m other))
+-- a name that is there keeps its value, and another has the new one
+set_at : {T : Type 0} (m : BTreeMap (Bor (List ℕ)) T) (name other : List ℕ) (first v : T) (b : Bool) → Some first ≡ or_else (value_at m name) (Some v)
+    → (b ≡ true → name ≡ other) → cond b (Some first) (value_at m other) ≡ or_else (value_at m other) (if b then Some v else None)
+set_at {T} m name other first v true e same =
+    let P : List ℕ → Type 0 = λ n. Some first ≡ or_else (value_at m n) (Some v) in
+    subst P (same refl) e
+set_at m name other first v false e same = sym (or_none (value_at m other))
 
-pub adds_none : {T : Type 0} (m : BTreeMap (Bor (List ℕ)) T) (name : List ℕ) (x v : T) → Some x ≡ value_at m name → Adds m m ((name, v) ∷ [])
-adds_none m name x v e = record {
-  each = λ other. rw (one_first other (name, v)) (kept_at m name other x v (bytes_eq name other) e (λ h. (bytes_eq-Decides name other).0 h));
-}
-
-set_at : {T : Type 0} (m : BTreeMap (Bor (List ℕ)) T) (name other : List ℕ) (v : T) (b : Bool) → None ≡ value_at m name → (b ≡ true → name ≡ other)
-    → cond b (Some v) (value_at m other) ≡ or_else (value_at m other) (if b then Some v else None)
-set_at m name other v true e same = rw (← same refl, ← e) refl
-set_at m name other v false e same = sym (or_none (value_at m other))
-
-pub adds_one : {T : Type 0} (m n : BTreeMap (Bor (List ℕ)) T) (name : List ℕ) (v : T) → None ≡ value_at m name
-    → UpdatesBy (λ x y. slice_cmp nat_cmp x.now y.now) (λ k. slice_cmp nat_cmp name k.now) m n (Some v) → Adds m n ((name, v) ∷ [])
-adds_one m n name v e updates = record {
-  each = λ other. btree_map_updates_str name m n (Some v) updates other
-      ∙ rw (one_first other (name, v)) (set_at m name other v (bytes_eq name other) e (λ h. (bytes_eq-Decides name other).0 h));
-}
+pub adds_first : {T : Type 0} (m n : BTreeMap (Bor (List ℕ)) T) (name : List ℕ) (first v : T) (there : Option T) → there ≡ value_at m name
+    → Some first ≡ or_else there (Some v)
+    → UpdatesBy (λ x y. slice_cmp nat_cmp x.now y.now) (λ k. slice_cmp nat_cmp name k.now) m n (Some first) → Adds m n ((name, v) ∷ [])
+adds_first {T} m n name first v there is e updates =
+    let P : Option T → Type 0 = λ o. Some first ≡ or_else o (Some v) in
+    record {
+      each = λ other. btree_map_updates_str name m n (Some first) updates other
+          ∙ rw (one_first other (name, v)) (set_at m name other first v (bytes_eq name other) (subst P is e) (λ h. (bytes_eq-Decides name other).0 h));
+    }
 
 pub adds_nothing : {T : Type 0} (m : BTreeMap (Bor (List ℕ)) T) → Adds m m []
 adds_nothing m = record { each = λ name. sym (or_none (value_at m name)) ∙ ap (or_else (value_at m name)) (sym (first_of-nil name)) }

@@ -13,17 +13,15 @@ use Rattle.bench_model.specs.Rules.{KeepsRules}
 use Rattle.bench_model.specs.declared.database.Signal.{Signal}
 use Rattle.bench_model.specs.declared.database.Message.{Message}
 use Rattle.bench_model.specs.declared.database.Database.{Database}
-use Rattle.ldf_grammar.specs.Sizes.{section_of}
+use Rattle.ldf_grammar.specs.Sizes as sections
+use Rattle.ldf_grammar.specs.Sizes.{Section, section_of}
 use Rattle.ldf_grammar.specs.Forms.{taken, taking}
-use Rattle.ldf_grammar.specs.StatementForms.{mark_of, line_by, after_line, section_by, after_section, header_line, other_section, signal_section, frame_section, encoding_section, representation_section, passed_section, passed_line, section_by_kind, opened_section, statement_behind, statement, whole_statement}
+use Rattle.ldf_grammar.specs.StatementForms as marks
+use Rattle.ldf_grammar.specs.StatementForms.{Mark, mark_of, line_by, after_line, section_by, after_section, header_line, other_section, signal_section, frame_section, encoding_section, representation_section, passed_section, passed_line, section_by_kind, opened_section, statement_behind, statement, whole_statement}
 use Rattle.ldf_grammar.specs.Run.{after_first, behind_name, HasStatements}
 use Rattle.ldf_grammar.specs.Gather.{Definitions, definitions_of, first_of, signal_by, signal_in, message_of, messages_in, messages_of}
 use Rattle.ldf_grammar.specs.Described.{IsDatabaseOf}
 use Rattle.token_forms.specs.Names.{HasNames}
-use Rattle.ldf_grammar.specs.declared.section.Section.{Section}
-use Rattle.ldf_grammar.specs.declared.section.Section.TheVariants as sections
-use Rattle.ldf_grammar.specs.declared.skipping.Mark.{Mark}
-use Rattle.ldf_grammar.specs.declared.skipping.Mark.TheVariants as marks
 use Rattle.ldf_grammar.specs.declared.statement.SignalLine.{SignalLine}
 use Rattle.ldf_grammar.specs.declared.statement.FrameSignal.{FrameSignal}
 use Rattle.ldf_grammar.specs.declared.statement.Frame.{Frame}
@@ -37,7 +35,7 @@ line_leaves : (text : List ℕ) (m : Mark) (rest : List Token) (later : Option (
 line_leaves text marks.Opening rest later of l = tt
 line_leaves text marks.Closing rest later of l = tt
 line_leaves text marks.End rest later of l = of
-line_leaves text marks.Other rest later of l = l
+line_leaves text marks.Neither rest later of l = l
 
 after_line_leaves : (text : List ℕ) (tokens : List Token) → AreOfText text tokens → LeavesOf text (after_line text tokens)
 unfolding after_line
@@ -49,7 +47,7 @@ section_leaves text marks.Opening depth rest later of l = l (depth + 1)
 section_leaves text marks.Closing zero rest later of l = of
 section_leaves text marks.Closing (suc depth) rest later of l = l depth
 section_leaves text marks.End depth rest later of l = l depth
-section_leaves text marks.Other depth rest later of l = l depth
+section_leaves text marks.Neither depth rest later of l = l depth
 
 after_section_leaves : (text : List ℕ) (tokens : List Token) → AreOfText text tokens → (depth : ℕ) → LeavesOf text (after_section text depth tokens)
 unfolding after_section

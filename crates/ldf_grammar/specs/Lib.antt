@@ -10,5 +10,6 @@ pub mod Unknown
 pub mod Described
 -- views of the code's types
 pub mod Gives
+pub mod Kinds
 pub mod Lookup
 pub mod Answer

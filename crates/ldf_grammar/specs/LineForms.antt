@@ -5,10 +5,9 @@ use Rattle.token_forms.specs.declared.numbers.SignedNumber.{SignedNumber}
 use Rattle.token_forms.specs.Pieces.{token_text, word_at, string_at}
 use Rattle.token_forms.specs.Numbers.{number_up_to_at, signed_at}
 use Rattle.token_forms.specs.Runs.{Form}
-use Rattle.ldf_grammar.specs.Sizes.{greatest_number, most_bits, last_identifier, most_bytes, last_offset, is_size, entry_kind}
+use Rattle.ldf_grammar.specs.Sizes as kinds
+use Rattle.ldf_grammar.specs.Sizes.{EntryKind, greatest_number, most_bits, last_identifier, most_bytes, last_offset, is_size, entry_kind}
 use Rattle.ldf_grammar.specs.Forms.{◌>>=◌, say, demand, expect, either, until}
-use Rattle.ldf_grammar.specs.declared.entry.EntryKind.{EntryKind}
-use Rattle.ldf_grammar.specs.declared.entry.EntryKind.TheVariants as kinds
 use Rattle.ldf_grammar.specs.declared.statement.SignalLine.{SignalLine}
 use Rattle.ldf_grammar.specs.declared.statement.FrameSignal.{FrameSignal}
 use Rattle.ldf_grammar.specs.declared.statement.Frame.{Frame}

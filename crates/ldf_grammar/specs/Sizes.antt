@@ -2,10 +2,6 @@
 -- Package 2.1, "Configuration language"; the limits are this project's own).
 use Rattle.std.specs.Prelude.{ℕ, ◌%◌, ◌==◌, ◌&&◌, ◌||◌, Bool, List, Option, Some, None, codes, nat_le, if◌then◌else◌}
 use Rattle.std.specs.Str.{bytes_eq}
-use Rattle.ldf_grammar.specs.declared.entry.EntryKind.{EntryKind}
-use Rattle.ldf_grammar.specs.declared.entry.EntryKind.TheVariants as kinds
-use Rattle.ldf_grammar.specs.declared.section.Section.{Section}
-use Rattle.ldf_grammar.specs.declared.section.Section.TheVariants as sections
 
 -- every number is below 2^63
 abbrev pub greatest_number : ℕ
@@ -29,19 +25,32 @@ abbrev pub is_size : ℕ → Bool → Bool
 is_size size is_array =
     if is_array then size % 8 == 0 && (nat_le 8 size && nat_le size most_bits) else nat_le 1 size && nat_le size 16
 
+-- the kinds of entries, and the sections that are kept, with all others
+pub data EntryKind : Type 0 where
+  Logical : EntryKind
+  Physical : EntryKind
+  Plain : EntryKind
+
+pub data Section : Type 0 where
+  Signals : Section
+  Frames : Section
+  Encodings : Section
+  Representations : Section
+  Other : Section
+
 -- the kind of entry that a word begins
 abbrev pub entry_kind : List ℕ → Option EntryKind
 entry_kind word =
-    if bytes_eq word (codes "logical_value") then Some kinds.Logical
-    else if bytes_eq word (codes "physical_value") then Some kinds.Physical
-    else if bytes_eq word (codes "bcd_value") || bytes_eq word (codes "ascii_value") then Some kinds.Plain
+    if bytes_eq word (codes "logical_value") then Some Logical
+    else if bytes_eq word (codes "physical_value") then Some Physical
+    else if bytes_eq word (codes "bcd_value") || bytes_eq word (codes "ascii_value") then Some Plain
     else None
 
 -- the section that a word begins
 abbrev pub section_of : List ℕ → Section
 section_of word =
-    if bytes_eq word (codes "Signals") then sections.Signals
-    else if bytes_eq word (codes "Frames") then sections.Frames
-    else if bytes_eq word (codes "Signal_encoding_types") then sections.Encodings
-    else if bytes_eq word (codes "Signal_representation") then sections.Representations
-    else sections.Other
+    if bytes_eq word (codes "Signals") then Signals
+    else if bytes_eq word (codes "Frames") then Frames
+    else if bytes_eq word (codes "Signal_encoding_types") then Encodings
+    else if bytes_eq word (codes "Signal_representation") then Representations
+    else Other

@@ -4,30 +4,33 @@ use Rattle.std.specs.Str.{bytes_eq}
 use Rattle.sig_text.specs.declared.token.Token.{Token}
 use Rattle.token_forms.specs.Pieces.{token_text, word_at}
 use Rattle.token_forms.specs.Runs.{Form}
-use Rattle.ldf_grammar.specs.Sizes.{section_of}
+use Rattle.ldf_grammar.specs.Sizes as sections
+use Rattle.ldf_grammar.specs.Sizes.{Section, section_of}
 use Rattle.ldf_grammar.specs.Forms.{◌>>=◌, say, expect, either, until, passed, taking}
 use Rattle.ldf_grammar.specs.LineForms.{signal_line, frame, encoding, representation}
-use Rattle.ldf_grammar.specs.declared.section.Section.{Section}
-use Rattle.ldf_grammar.specs.declared.section.Section.TheVariants as sections
-use Rattle.ldf_grammar.specs.declared.skipping.Mark.{Mark}
-use Rattle.ldf_grammar.specs.declared.skipping.Mark.TheVariants as marks
 use Rattle.ldf_grammar.specs.declared.statement.Statement.{Statement}
 use Rattle.ldf_grammar.specs.declared.statement.Statement.TheVariants.{Signals, Frames, Encodings, Representations, PassedOver}
 
 -- what a token is where only braces and semicolons count
+pub data Mark : Type 0 where
+  Opening : Mark
+  Closing : Mark
+  End : Mark
+  Neither : Mark
+
 abbrev pub mark_of : List ℕ → Mark
 mark_of word =
-    if bytes_eq word (codes "{") then marks.Opening
-    else if bytes_eq word (codes "}") then marks.Closing
-    else if bytes_eq word (codes ";") then marks.End
-    else marks.Other
+    if bytes_eq word (codes "{") then Opening
+    else if bytes_eq word (codes "}") then Closing
+    else if bytes_eq word (codes ";") then End
+    else Neither
 
 -- the tokens after the first semicolon, where no brace stands before it
 abbrev pub line_by : Mark → List Token → Option (List Token) → Option (List Token)
-line_by marks.Opening rest later = None
-line_by marks.Closing rest later = None
-line_by marks.End rest later = Some rest
-line_by marks.Other rest later = later
+line_by Opening rest later = None
+line_by Closing rest later = None
+line_by End rest later = Some rest
+line_by Neither rest later = later
 
 unfoldable pub after_line : List ℕ → List Token → Option (List Token)
 after_line text [] = None
@@ -35,11 +38,11 @@ after_line text (token ∷ rest) = line_by (mark_of (token_text text token)) res
 
 -- the tokens after the brace that closes the section, at this depth
 abbrev pub section_by : Mark → ℕ → List Token → (ℕ → Option (List Token)) → Option (List Token)
-section_by marks.Opening depth rest later = later (depth + 1)
-section_by marks.Closing zero rest later = Some rest
-section_by marks.Closing (suc depth) rest later = later depth
-section_by marks.End depth rest later = later depth
-section_by marks.Other depth rest later = later depth
+section_by Opening depth rest later = later (depth + 1)
+section_by Closing zero rest later = Some rest
+section_by Closing (suc depth) rest later = later depth
+section_by End depth rest later = later depth
+section_by Neither depth rest later = later depth
 
 unfoldable pub after_section : List ℕ → ℕ → List Token → Option (List Token)
 after_section text depth [] = None

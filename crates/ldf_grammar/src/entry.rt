@@ -2,7 +2,9 @@
 
 ghost use Rattle.std.specs.Prelude.{◌≡◌};
 ghost use Rattle.token_forms.specs.Views.{found_view};
+ghost use Rattle.std.specs.Option.{option_map};
 ghost use Rattle.ldf_grammar.specs.Sizes.{entry_kind};
+ghost use Rattle.ldf_grammar.specs.Kinds.{kind_view};
 ghost use Rattle.ldf_grammar.specs.LineForms.{last_string, next_number, next_signed, logical};
 ghost use Rattle.ldf_grammar.specs.LineForms.{physical, entry, word_before, encoding, representation};
 
@@ -23,7 +25,7 @@ pub(crate) enum EntryKind {
 
 /// The kind of entry that the word begins.
 fn kind_of(word: &[u8]) -> Option<EntryKind>
-    ensures { result ≡ entry_kind word.now }
+    ensures { option_map kind_view result ≡ entry_kind word.now }
 {
     if word == b"logical_value".as_slice() {
         Some(EntryKind::Logical)

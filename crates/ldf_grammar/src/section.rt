@@ -4,6 +4,7 @@ ghost use Rattle.std.specs.Prelude.{◌≡◌};
 ghost use Rattle.ldf_grammar.specs.Sizes.{section_of};
 ghost use Rattle.ldf_grammar.specs.StatementForms.{section_by_kind, statement};
 ghost use Rattle.ldf_grammar.specs.Gives.{Gives};
+ghost use Rattle.ldf_grammar.specs.Kinds.{section_view};
 
 use crate::parts::{Part, Stop, parts_until};
 use crate::skipping::{after_line, after_section};
@@ -24,7 +25,7 @@ pub(crate) enum Section {
 
 /// The section that the word begins.
 fn section_of(word: &[u8]) -> Section
-    ensures { result ≡ section_of word.now }
+    ensures { section_view result ≡ section_of word.now }
 {
     if word == b"Signals".as_slice() {
         Section::Signals
@@ -47,7 +48,7 @@ fn section_at<'a>(
     section: Section,
     tokens: &'a [Token],
 ) -> Result<(Statement, &'a [Token]), Stop>
-    ensures { Gives result (section_by_kind bytes.now section tokens.now) }
+    ensures { Gives result (section_by_kind bytes.now (section_view section) tokens.now) }
 {
     match section {
         Section::Signals => {

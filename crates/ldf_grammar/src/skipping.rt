@@ -2,6 +2,7 @@
 
 ghost use Rattle.std.specs.Prelude.{◌≡◌};
 ghost use Rattle.token_forms.specs.Views.{rest_view};
+ghost use Rattle.ldf_grammar.specs.Kinds.{mark_view};
 ghost use Rattle.ldf_grammar.specs.StatementForms.{mark_of, after_line, after_section};
 
 use sig_text::Token;
@@ -17,7 +18,7 @@ enum Mark {
 }
 
 fn mark_of(text: &[u8]) -> Mark
-    ensures { result ≡ mark_of text.now }
+    ensures { mark_view result ≡ mark_of text.now }
 {
     if text == b"{".as_slice() {
         Mark::Opening

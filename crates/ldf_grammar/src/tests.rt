@@ -2,10 +2,11 @@
 
 use crate::{LdfFault, read_ldf};
 use bench_model::{CheckFault, CheckWhy, Coding, Entry, Message, Signal, Valid};
-use sig_text::LexFault;
+use sig_text::{LexFault, tokens};
 use std::alloc::{AllocError, Global};
 use std::process::Abort;
 use std::test::Fail;
+use token_forms::token_text;
 
 /// A number in decimal digits behind the words.
 fn add_number(alloc: Global, words: &mut Vec<u8>, number: i128) -> Result<(), AllocError> {
@@ -258,6 +259,20 @@ const DATABASES: [(&[u8], &[u8]); 19] = [
     ),
 ];
 
+/// Texts that are not UTF-8, be it for a byte of a string or of a comment: each byte of a string is a character.
+const LATIN_1: [(&[u8], &[u8]); 2] = [
+    (
+        b"LIN_description_file;Signals{T:8,0,S;}Frames{F:1,N,1{T,0;}}Signal_encoding_types{E{physica\
+            l_value,0,9,1,0,\"\xb0C\";logical_value,1,\"\xe4\xf6\";}}Signal_representation{E:T;}",
+        b"F 1 1: T 0 8 [0..9 1 0 0 \xc2\xb0C, 1 \xc3\xa4\xc3\xb6]",
+    ),
+    (
+        b"LIN_description_file;// \xb0C\nSignals{T:8,0,S;}Frames{F:1,N,1{T,0;}}Signal_encoding_types{E{\
+            physical_value,0,9,1,0,\"\xc2\xb0C\";}}Signal_representation{E:T;}",
+        b"F 1 1: T 0 8 [0..9 1 0 0 \xc3\x82\xc2\xb0C]",
+    ),
+];
+
 /// Texts without statements, with a faulty one, or with one that breaks off.
 const STATEMENT_FAULTS: [(&[u8], &[u8]); 31] = [
     (b"", b"statement 0"),
@@ -420,6 +435,11 @@ fn texts_describe_their_databases(rt: HostRuntime) -> Result<(), Fail> {
 }
 
 #[test]
+fn texts_that_are_not_utf8_are_latin_1(rt: HostRuntime) -> Result<(), Fail> {
+    are_shown(&rt, rt.alloc(), &LATIN_1)
+}
+
+#[test]
 fn statements_break_off_at_their_first_word(rt: HostRuntime) -> Result<(), Fail> {
     are_shown(&rt, rt.alloc(), &STATEMENT_FAULTS)
 }
@@ -427,6 +447,34 @@ fn statements_break_off_at_their_first_word(rt: HostRuntime) -> Result<(), Fail>
 #[test]
 fn other_faults_stand_at_their_places(rt: HostRuntime) -> Result<(), Fail> {
     are_shown(&rt, rt.alloc(), &OTHER_FAULTS)
+}
+
+/// The text with a comment behind each token, of both kinds in turn.
+fn with_comments(alloc: Global, text: &[u8]) -> Result<Vec<u8>, AllocError> {
+    let list = match tokens(alloc, text, true) {
+        Ok(list) => list,
+        Err(_) => return Err(AllocError),
+    };
+    let mut commented = Vec::new(alloc);
+    for (place, token) in list.iter().enumerate() {
+        commented.extend_from_slice(token_text(text, *token))?;
+        commented.extend_from_slice(if place % 2 == 0 {
+            b"/* \" { ; */".as_slice()
+        } else {
+            b"// \" } ;\n".as_slice()
+        })?;
+    }
+    Ok(commented)
+}
+
+#[test]
+fn comments_stand_between_any_two_tokens(rt: HostRuntime) -> Result<(), Fail> {
+    for row in &DATABASES {
+        let text = with_comments(rt.alloc(), row.0)?;
+        let words = shown(rt.alloc(), &text)?;
+        assert_eq!(rt; words.as_slice(), row.1);
+    }
+    Ok(())
 }
 
 #[test]

@@ -2,7 +2,7 @@
 
 use super::showing::checked_text;
 use super::*;
-use std::alloc::Global;
+use std::alloc::{AllocError, Global};
 use std::process::Abort;
 use std::test::*;
 
@@ -144,6 +144,28 @@ fn hold(rt: &impl Abort, alloc: Global, rows: &[(&[u8], &str)]) -> Result<(), Fa
         let text = checked_text(alloc, *file)?;
         assert_eq!(rt; text.as_str(), *expected);
     }
+    Ok(())
+}
+
+/// A message with so many signals of different names.
+fn message_of(alloc: Global, count: u32) -> Result<Vec<u8>, AllocError> {
+    let mut file = b"BO_ 256 M: 8 E\n".to_vec(alloc)?;
+    for number in 0..count {
+        let line = format!(in alloc; " SG_ S{number} : 0|1@1+ (1,0) [0|0] \"\" X\n")?;
+        file.extend_from_slice(line.as_bytes())?;
+    }
+    Ok(file)
+}
+
+#[test]
+fn a_message_has_1024_signals_at_most(rt: HostRuntime) -> Result<(), Fail> {
+    let alloc = rt.alloc();
+    let within = message_of(alloc, 1024)?;
+    let text = checked_text(alloc, &within)?;
+    assert_eq!(rt; text.as_str(), "ok 1 1024");
+    let past = message_of(alloc, 1025)?;
+    let text = checked_text(alloc, &past)?;
+    assert_eq!(rt; text.as_str(), "limit 256");
     Ok(())
 }
 

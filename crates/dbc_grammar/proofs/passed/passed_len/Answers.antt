@@ -2,7 +2,7 @@ use Rattle.std.proofs.Common.{◌∙◌, sym, length, arith}
 use Rattle.std.proofs.lemmas.List.Sums.{prefix_len_is}
 use Rattle.sig_text.specs.declared.token.Token.{Token}
 use Rattle.sig_text.specs.declared.token.TokenKind.TheVariants.{Word}
-use Rattle.dbc_grammar.specs.Passed.{is_passed}
+use Rattle.dbc_grammar.specs.Sorts.{is_passed}
 use Rattle.dbc_grammar.proofs.passed.passed_len.Goals as goal
 
 any : Token

@@ -1,6 +1,6 @@
 use Rattle.std.proofs.Common.{◌≡◌, ℕ, ◌<◌, get_or, true}
 use Rattle.sig_text.specs.declared.token.Token.{Token}
-use Rattle.dbc_grammar.specs.Passed.{is_passed}
+use Rattle.dbc_grammar.specs.Sorts.{is_passed}
 use Rattle.dbc_grammar.proofs.passed.passed_len.Given as goal
 
 -- those so far are of the sort
