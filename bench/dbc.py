@@ -1,7 +1,7 @@
 #!/usr/bin/env python3
 """A DBC file of some length from a seed: messages with signals, multiplexing, value texts, comments and attributes.
 
-    bench/database.py SEED BYTES > FILE
+    bench/dbc.py SEED BYTES > FILE
 """
 import random
 import sys
