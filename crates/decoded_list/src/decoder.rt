@@ -4,7 +4,7 @@ ghost use Rattle.std.specs.Prelude.{◌≡◌, ◌<◌, ◌⊎◌, ◌+◌, ◌^
 ghost use Rattle.bench_model.specs.Check.{IsValid};
 ghost use Rattle.bench_model.specs.Meaning.{bench_meaning};
 ghost use Rattle.candump_log.specs.declared.log_line.LogLine.{LogLine};
-ghost use Rattle.decoded_list.specs.Records.{stamp_of, brought_on, records_at};
+ghost use Rattle.decoded_list.specs.Records.{stamp_of, heard_at, brought_on, records_at};
 ghost use Rattle.decoded_list.specs.RecordsView.{record_list, IsFrame};
 ghost use Rattle.decoded_list.specs.Listening.{Listens, HasTaken};
 
@@ -52,6 +52,8 @@ pub fn listen(kind: Kind, listener: &mut Listener, line: &LogLine) -> Result<TpO
     ensures heard { (before : List LogLine) → Listens kind listener.old before
         → OnOk result (Listens kind listener.new (before ++ line.now ∷ [])) }
     ensures unchanged { OnErr result (listener.new ≡ listener.old) }
+    ensures elsewhere { (kind ≡ Kind.J1939) ⊎ (listener.new ≡ listener.old) }
+    ensures unheard { heard_at line.now ≡ [] → listener.new ≡ listener.old }
     ensures quiet { IsFrame line.now ⊎ (result ≡ Ok TpOut.Nothing) }
 {
     match line {
@@ -114,6 +116,9 @@ impl BusDecoder {
         ensures unnumbered { OnErr result (self.new.next ≡ self.old.next) }
         ensures frame { OnErr result (IsFrame line.now) }
         ensures same { (self.new.bus ≡ self.old.bus) × (self.new.kind ≡ self.old.kind) }
+        // Only a J1939 bus has messages of several packets, and only frames with a 29-bit identifier change them.
+        ensures elsewhere { (self.old.kind ≡ Kind.J1939) ⊎ (self.new.listener ≡ self.old.listener) }
+        ensures unheard { heard_at line.now ≡ [] → self.new.listener ≡ self.old.listener }
     {
         let micros = stamp_of(line);
         let own = own_body(self.alloc, bench, self.bus, line)?;
