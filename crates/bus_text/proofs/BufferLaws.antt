@@ -31,6 +31,12 @@ buffers_then {before} {mid} {now} {first} {second} f s = record {
   later = omega (arith, f.later, s.later);
 }
 
+-- where nothing was pending and nothing is, what was given was written
+pub buffers_flushed : {before now : Output} {given : List ℕ} → Buffers before given now → before.pending ≡ [] → now.pending ≡ [] → now.written ≡ append_known before.written given
+buffers_flushed {before} {now} {given} b was is =
+    let sent : b.sent ≡ given = sym (append-nil b.sent) ∙ ap (λ (l : List ℕ). b.sent ++ l) (sym is) ∙ b.kept ∙ ap (λ (l : List ℕ). l ++ given) was in
+    b.written ∙ ap (append_known before.written) sent
+
 -- the same text by another equation
 pub buffers_as : {before now : Output} {given text : List ℕ} → given ≡ text → Buffers before given now → Buffers before text now
 buffers_as {before} {now} e b = record { sent = b.sent; kept = b.kept ∙ ap (λ (l : List ℕ). before.pending ++ l) e; written = b.written; later = b.later }

@@ -1,5 +1,8 @@
 -- The text of a bus: what a subscriber is sent who sees all of its log under one version of the databases.
-use Rattle.std.specs.Prelude.{ℕ, List, [], ◌∷◌, ◌++◌, length, map}
+use Rattle.std.specs.Prelude.{ℕ, List, [], ◌∷◌, ◌++◌, length, map, Option, Some, None, slice_get}
+use Rattle.bench_model.specs.declared.database.Kind.{Kind}
+use Rattle.bench_model.specs.declared.database.Kind.TheVariants as kind
+use Rattle.bench_model.specs.declared.database.Bus.{Bus}
 use Rattle.bench_model.specs.declared.database.Bench.{Bench}
 use Rattle.bench_model.specs.declared.reading.Reading.{Reading}
 use Rattle.bench_model.specs.declared.reading.Item.{Item}
@@ -9,6 +12,15 @@ use Rattle.decoded_list.specs.Decoded.{decoded}
 use Rattle.subscriber_text.specs.Wants.{WantList}
 use Rattle.subscriber_text.specs.ItemText.{items_text}
 use Rattle.bus_text.specs.declared.bus.BusPlace.{BusPlace}
+
+-- the kind that a bench gives a bus; at a place without a bus, which no call is asked for, it is CAN
+abbrev pub kind_of : Option Bus → Kind
+kind_of (Some bus) = bus.kind
+kind_of None = kind.Can
+
+-- the bus at this place of a bench
+abbrev pub bus_at : Bench → ℕ → BusPlace
+bus_at bench place = record { place = place; kind = kind_of (slice_get bench.buses place) }
 
 -- the decoded list of these lines on the bus, each line under this bench as version 0
 unfoldable pub records_of : Bench → BusPlace → List LogLine → List Reading
@@ -36,7 +48,3 @@ text_so_far w bench bus lines = items_text w (items_so_far bus.place (records_of
 -- the text of a log of these lines that has ended
 unfoldable pub bus_text : WantList → Bench → BusPlace → List LogLine → List ℕ
 bus_text w bench bus lines = items_text w (bus_items bus.place (records_of bench bus lines))
-
--- the wants of everything of buses of these names, in format 1
-abbrev pub all_wanted : List (List ℕ) → WantList
-all_wanted names = record { format = 1; names = names; wants = [] }

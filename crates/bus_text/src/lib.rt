@@ -17,7 +17,7 @@ mod refused;
 
 pub use buffer::TextBuffer;
 pub use bus::BusPlace;
-pub use laws::the_text_goes_on;
+pub use laws::{the_text_goes_on, uses_of_a_buffer_are_one};
 pub use printing::{Printed, print_bus};
 pub use refused::BusRefused;
 

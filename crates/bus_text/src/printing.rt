@@ -7,8 +7,8 @@ ghost use Rattle.candump_log.specs.LineOf.{line_of};
 ghost use Rattle.candump_log.specs.LinesState.{told, fresh, log_of};
 ghost use Rattle.decoded_list.specs.RecordsView.{record_list};
 ghost use Rattle.subscriber_text.specs.ItemText.{items_text};
-ghost use Rattle.bus_text.specs.BusText.{reading_items, bus_text};
-ghost use Rattle.bus_text.specs.Buffering.{output, Buffers, PrintsText};
+ghost use Rattle.bus_text.specs.BusText.{bus_at, reading_items, bus_text};
+ghost use Rattle.bus_text.specs.Buffering.{buffer_limit, output, Buffers, PrintsText};
 ghost use Rattle.bus_text.specs.LineView.{start_at, line_text, HasDecoded};
 ghost use Rattle.bus_text.specs.Printing.{PrintsBus, Settles, IsWritten};
 ghost use Rattle.bus_text.specs.declared.bus.BusPlace.{BusPlace as Place};
@@ -112,6 +112,7 @@ fn print_end<K: Sink>(
     ensures prints { PrintsText (items_text wants.now (Item.End bus decoder.now.next ∷ []))
         (output (K.written out.old) (K.write_faults out.old) buffer.old) result
         (output (K.written out.new) (K.write_faults out.new) buffer.new) }
+    ensures short { OnOk result (length buffer.new < buffer_limit) }
     ensures other { K.other out.new ≡ K.other out.old }
 {
     let end = Item::End {
@@ -138,6 +139,7 @@ fn print_lines<S: Source, K: Sink>(
     ensures prints { PrintsBus wants.now bench.now bus lines.old.source lines.new.source
         (output (K.written out.old) (K.write_faults out.old) buffer.old)
         (output (K.written out.new) (K.write_faults out.new) buffer.new) result }
+    ensures short { OnOk result (length buffer.new < buffer_limit) }
     ensures log_side { lines.new.other ≡ lines.old.other }
     ensures other { K.other out.new ≡ K.other out.old }
 {
@@ -160,6 +162,7 @@ fn settle<K: Sink>(
         (output (K.written out.new) (K.write_faults out.new) buffer.new) }
     ensures answer { Settles end (K.write_faults out.old) (K.write_faults out.new) result }
     ensures written { IsWritten result buffer.new }
+    ensures short { OnOk end (length buffer.old < buffer_limit) → OnOk result (length buffer.new < buffer_limit) }
     ensures other { K.other out.new ≡ K.other out.old }
 {
     match end {
@@ -172,25 +175,25 @@ fn settle<K: Sink>(
     }
 }
 
-/// Prints the text of a bus: the records of the lines of its log, decoded under the bench as version 0, between its
-/// start and its end, as far as they are wanted. The text goes through the buffer, which all of a tool's buses share:
-/// at the end of a log its last bytes are pending, and the caller flushes behind the last bus. The log comes back in
-/// every case.
+/// Prints the text of the bus at this place of the bench, whose kind the bench says: the records of the lines of its
+/// log, decoded under the bench as version 0, between its start and its end, as far as they are wanted. The text goes
+/// through the buffer, which all of a tool's buses share: at the end of a log its last bytes are pending, and the caller
+/// flushes behind the last bus. The log comes back in every case.
 pub fn print_bus<S: Source, K: Sink>(
     alloc: Global,
     bench: &Bench,
-    bus: BusPlace,
+    place: u32,
     wants: &Wants,
     log: S,
     buffer: &mut TextBuffer,
     out: &mut K,
 ) -> Printed<S>
-    requires bus { bus.place < length bench.now.buses }
+    requires bus { place < length bench.now.buses }
     requires valid { All (λ b. IsValid b.database) bench.now.buses }
     requires log { S.ended log ≡ false }
 
     // What was taken of the log, what of its text was given to the buffer, and the cause of the answer.
-    ensures prints { PrintsBus wants.now bench.now bus
+    ensures prints { PrintsBus wants.now bench.now (bus_at bench.now place)
         (told (S.left log) (S.taken log) (S.read_faults log) (S.ended log))
         (told (S.left result.log) (S.taken result.log) (S.read_faults result.log) (S.ended result.log))
         (output (K.written out.old) (K.write_faults out.old) buffer.old)
@@ -198,9 +201,11 @@ pub fn print_bus<S: Source, K: Sink>(
     // On Ok the text of all lines was given, nothing else, nothing less.
     ensures ok { OnOk result.end (IfSome (S.left log) (λ bytes. Buffers
         (output (K.written out.old) (K.write_faults out.old) buffer.old)
-        (bus_text wants.now bench.now bus (map line_of (all_lines bytes)))
+        (bus_text wants.now bench.now (bus_at bench.now place) (map line_of (all_lines bytes)))
         (output (K.written out.new) (K.write_faults out.new) buffer.new))) }
     ensures written { IsWritten result.end buffer.new }
+    // However much was pending before.
+    ensures short { OnOk result.end (length buffer.new < buffer_limit) }
     ensures log_side { S.other result.log ≡ S.other log }
     ensures other { K.other out.new ≡ K.other out.old }
 {
@@ -213,6 +218,7 @@ pub fn print_bus<S: Source, K: Sink>(
             };
         }
     };
+    let bus = BusPlace::of(bench, place);
     let end = print_lines(alloc, bench, bus, wants, &mut lines, buffer, out);
     let end = settle(end, buffer, out);
     Printed {

@@ -1,17 +1,17 @@
 //! What no clause says: that calls succeed with ample memory, and that the worked logs have their texts, read and
 //! written in pieces of any size, and as far as reads and writes succeed.
-ghost use Rattle.std.specs.Prelude.{◌≡◌, ◌≤◌, length, All, IfOk};
-ghost use Rattle.bench_model.specs.Limits.{IsMade};
+ghost use Rattle.std.specs.Prelude.{◌≡◌, ◌≤◌, false, length, All, IfOk};
 ghost use Rattle.bench_model.specs.Check.{IsValid};
 
 mod cases;
+mod databases;
 
 use crate::*;
 use bench_model::*;
 use cases::*;
-use exact_scale::Decimal;
-use multiplex_tree::{List, Mark, resolve};
-use port_io::{MemSink, MemSource};
+use databases::bus_of;
+use multiplex_tree::List;
+use port_io::{MemSink, MemSource, Source};
 use std::alloc::Global;
 use std::process::Abort;
 use std::test::Fail;
@@ -33,66 +33,39 @@ const WHOLE: Pieces = Pieces {
     failing_writes: &[],
 };
 
-/// The message with identifier 256, of one signal that counts by twos.
-fn engine(alloc: Global) -> Result<Message, Fail>
-    ensures { IfOk result IsMade }
-{
-    let signal = Signal {
-        name: Text::of(alloc, b"Speed")?,
-        start: 0,
-        size: 16,
-        order: Order::Intel,
-        signed: false,
-        float: false,
-        coding: Coding::Scaled {
-            scale: Scale::new(Decimal::read(b"2")?, Decimal::read(b"0")?)?,
-            unit: Text::of(alloc, b"rpm")?,
-            labels: List::of(Vec::new(alloc)),
-        },
-    };
-    let mark = Mark {
-        multiplexor: false,
-        group: None,
-    };
-    let tree = resolve(alloc, &[mark], &[])?;
-    Ok(Message {
-        name: Text::of(alloc, b"Engine")?,
-        key: Key {
-            extended: false,
-            id: 256,
-        },
-        length: 8,
-        signals: List::of(vec![in alloc; signal]?),
-        tree,
-    })
-}
-
-/// That message, or none.
-fn messages_of(alloc: Global, described: bool) -> Result<Vec<Message>, Fail>
-    ensures { IfOk result (λ messages. All IsMade messages.items) }
-{
-    let mut messages = Vec::new(alloc);
-    if described {
-        messages.push(engine(alloc)?)?;
-    }
-    Ok(messages)
-}
-
-/// A bench of one bus, whose database has that message or none.
+/// A bench of one bus, that of a case.
 fn bench_of(alloc: Global, case: &Case) -> Result<Bench, Fail>
     ensures bus { IfOk result (λ bench. length bench.buses ≡ 1) }
     ensures valid { IfOk result (λ bench. All (λ b. IsValid b.database) bench.buses) }
 {
-    let messages = List::of(messages_of(alloc, case.described)?);
-    let valid = check(alloc, Database { messages })?;
-    let bus = Bus {
-        name: Text::of(alloc, case.bus)?,
-        kind: case.kind,
-        database: valid.into_database(),
-    };
+    let bus = bus_of(alloc, case.bus, case.kind, case.messages)?;
     Ok(Bench {
         buses: List::of(vec![in alloc; bus]?),
     })
+}
+
+/// A bench of the buses of two cases.
+fn bench_of_two(alloc: Global, first: &Case, second: &Case) -> Result<Bench, Fail>
+    ensures bus { IfOk result (λ bench. length bench.buses ≡ 2) }
+    ensures valid { IfOk result (λ bench. All (λ b. IsValid b.database) bench.buses) }
+{
+    let one = bus_of(alloc, first.bus, first.kind, first.messages)?;
+    let two = bus_of(alloc, second.bus, second.kind, second.messages)?;
+    Ok(Bench {
+        buses: List::of(vec![in alloc; one, two]?),
+    })
+}
+
+/// A log in memory.
+fn log_of(alloc: Global, log: &[u8], pieces: Pieces) -> Result<MemSource, Fail>
+    requires { 1 ≤ pieces.read }
+    ensures { IfOk result (λ source. ⟦<MemSource as Source>⟧.ended source ≡ false) }
+{
+    Ok(MemSource::new(
+        Vec::from_slice(alloc, log)?,
+        pieces.read,
+        Vec::from_slice(alloc, pieces.failing_reads)?,
+    ))
 }
 
 /// What was written of the text of a log, which starts anew in an empty buffer, and how that ended.
@@ -109,22 +82,14 @@ fn print_log(
     let bench = bench_of(alloc, case)?;
     let names = vec![in alloc; Text::of(alloc, case.bus)?]?;
     let wants = Wants::all(alloc, &names)?;
-    let bus = BusPlace {
-        place: 0,
-        kind: case.kind,
-    };
-    let log = MemSource::new(
-        Vec::from_slice(alloc, log)?,
-        pieces.read,
-        Vec::from_slice(alloc, pieces.failing_reads)?,
-    );
+    let log = log_of(alloc, log, pieces)?;
     let mut sink = MemSink::new(
         vec![in alloc; 0; room]?,
         pieces.write,
         Vec::from_slice(alloc, pieces.failing_writes)?,
     );
     let mut buffer = TextBuffer::new(alloc)?;
-    let printed = print_bus(alloc, &bench, bus, &wants, log, &mut buffer, &mut sink);
+    let printed = print_bus(alloc, &bench, 0, &wants, log, &mut buffer, &mut sink);
     let end = match printed.end {
         Ok(()) => match buffer.flush(&mut sink) {
             Ok(()) => Ok(()),
@@ -183,6 +148,17 @@ fn messages_of_several_packets_have_records_of_their_own(rt: HostRuntime) -> Res
 }
 
 #[test]
+fn a_lin_signal_has_the_text_or_the_scaling_of_its_encoding(rt: HostRuntime) -> Result<(), Fail> {
+    assert_text(&rt, rt.alloc(), &LISTED, 65_536, 65_536)
+}
+
+#[test]
+fn a_j1939_message_is_found_by_its_parameter_group(rt: HostRuntime) -> Result<(), Fail> {
+    assert_text(&rt, rt.alloc(), &GROUP, 65_536, 65_536)?;
+    assert_text(&rt, rt.alloc(), &WHOLE_GROUP, 65_536, 65_536)
+}
+
+#[test]
 fn reads_and_writes_of_any_size_give_one_text(rt: HostRuntime) -> Result<(), Fail> {
     for size in 1..64 {
         assert_text(&rt, rt.alloc(), &FRAMES, size, 64 - size)?;
@@ -206,15 +182,18 @@ fn first_lines(text: &str, count: usize) -> &[u8] {
     bytes
 }
 
-/// Reads of a line each, of which this one fails: the text stops behind the records of the lines before.
+/// Reads of this size, of which some fail: the text stops behind the records of the whole lines read before.
 fn assert_stop(
     rt: &impl Abort,
     alloc: Global,
+    read: usize,
     failing_reads: &'static [u64],
     lines: usize,
-) -> Result<(), Fail> {
+) -> Result<(), Fail>
+    requires { 1 ≤ read }
+{
     let pieces = Pieces {
-        read: 46,
+        read,
         failing_reads,
         ..WHOLE
     };
@@ -226,10 +205,75 @@ fn assert_stop(
 
 #[test]
 fn a_failing_read_stops_the_text_behind_whole_lines(rt: HostRuntime) -> Result<(), Fail> {
-    assert_stop(&rt, rt.alloc(), &[0], 0)?;
-    assert_stop(&rt, rt.alloc(), &[1], 3)?;
-    assert_stop(&rt, rt.alloc(), &[2], 5)?;
-    assert_stop(&rt, rt.alloc(), &[3], 6)
+    assert_stop(&rt, rt.alloc(), 46, &[0], 0)?;
+    assert_stop(&rt, rt.alloc(), 46, &[1], 3)?;
+    assert_stop(&rt, rt.alloc(), 46, &[2], 5)?;
+    assert_stop(&rt, rt.alloc(), 46, &[3], 6)
+}
+
+#[test]
+fn a_read_that_fails_within_a_line_leaves_that_line_out(rt: HostRuntime) -> Result<(), Fail> {
+    assert_stop(&rt, rt.alloc(), 30, &[1], 0)?;
+    assert_stop(&rt, rt.alloc(), 30, &[2], 3)?;
+    assert_stop(&rt, rt.alloc(), 30, &[4], 5)
+}
+
+/// What the log still has to give after a print of it.
+fn left_of_log(alloc: Global, pieces: Pieces) -> Result<(Result<(), BusRefused>, Vec<u8>), Fail>
+    requires { 1 ≤ pieces.read }
+{
+    let bench = bench_of(alloc, &FRAMES)?;
+    let names = vec![in alloc; Text::of(alloc, FRAMES.bus)?]?;
+    let wants = Wants::all(alloc, &names)?;
+    let log = log_of(alloc, FRAMES.log.as_bytes(), pieces)?;
+    let mut sink = MemSink::new(vec![in alloc; 0; 4_096]?, 4_096, Vec::new(alloc));
+    let mut buffer = TextBuffer::new(alloc)?;
+    let Printed { mut log, end } = print_bus(alloc, &bench, 0, &wants, log, &mut buffer, &mut sink);
+    let mut left = vec![in alloc; 0; 256]?;
+    let count = log.read(&mut left)?;
+    left.truncate(count);
+    Ok((end, left))
+}
+
+#[test]
+fn the_log_comes_back_with_the_bytes_that_were_not_taken(rt: HostRuntime) -> Result<(), Fail> {
+    let (end, left) = left_of_log(rt.alloc(), WHOLE)?;
+    assert_eq!(rt; end, Ok(()));
+    assert!(rt; left.is_empty());
+    let pieces = Pieces {
+        read: 50,
+        failing_reads: &[1],
+        ..WHOLE
+    };
+    let (end, left) = left_of_log(rt.alloc(), pieces)?;
+    assert_eq!(rt; end, Err(BusRefused::ReadFault));
+    assert_eq!(rt; left.as_slice(), &FRAMES.log.as_bytes()[50..100]);
+    Ok(())
+}
+
+/// Two buses printed through one buffer, the second behind the text of the first, which is still pending.
+fn print_two(alloc: Global, first: &Case, second: &Case) -> Result<MemSink, Fail> {
+    let bench = bench_of_two(alloc, first, second)?;
+    let names = vec![in alloc; Text::of(alloc, first.bus)?, Text::of(alloc, second.bus)?]?;
+    let wants = Wants::all(alloc, &names)?;
+    let mut sink = MemSink::new(vec![in alloc; 0; 4_096]?, 4_096, Vec::new(alloc));
+    let mut buffer = TextBuffer::new(alloc)?;
+    let log = log_of(alloc, first.log.as_bytes(), WHOLE)?;
+    print_bus(alloc, &bench, 0, &wants, log, &mut buffer, &mut sink).end?;
+    let log = log_of(alloc, second.log.as_bytes(), WHOLE)?;
+    print_bus(alloc, &bench, 1, &wants, log, &mut buffer, &mut sink).end?;
+    buffer.flush(&mut sink)?;
+    Ok(sink)
+}
+
+#[test]
+fn two_buses_are_decoded_under_databases_of_their_own(rt: HostRuntime) -> Result<(), Fail> {
+    let alloc = rt.alloc();
+    let sink = print_two(alloc, &FRAME, &TANK)?;
+    let mut text = String::from_str(alloc, FRAME.text)?;
+    text.push_str(TANK.text)?;
+    assert_eq!(rt; sink.bytes(), text.as_bytes());
+    Ok(())
 }
 
 /// How many empty lines make a text of several times what a buffer takes.

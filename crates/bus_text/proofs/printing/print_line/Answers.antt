@@ -1,6 +1,11 @@
-use Rattle.bus_text.proofs.BufferLaws.{same_error, prints_stop, prints_then, prints_as}
+use Rattle.subscriber_text.specs.declared.fault.PrintRefused.TheVariants as refusal
+use Rattle.bus_text.proofs.BufferLaws.{same_error, prints_none, prints_stop, prints_then, prints_as}
 use Rattle.bus_text.proofs.LineLaws.{line_as}
 use Rattle.bus_text.proofs.printing.print_line.Goals as goal
+
+pub returns-in_err-records-clause-prints : goal.returns-in_err-records-clause-prints
+returns-in_err-records-clause-prints g c bus lines d =
+    rw (same_error c.from_residual.result refusal.Memory c.from_residual.ensures) (prints_none _ _)
 
 pub returns-in_err-print_start-clause-prints : goal.returns-in_err-print_start-clause-prints
 returns-in_err-print_start-clause-prints g c bus lines d =
