@@ -55,6 +55,18 @@ apart_of files (Some name) a n h e missing =
     let there : named files n ≡ Some h.bytes = rw same at h.is_there in
     absurd (cc (there, missing))
 
+pub one_named : (files : Files) → Decides (HasDatabase files) (λ (name : List ℕ) (why : Unit {0}). named files name ≡ None)
+one_named files = record {
+  some = λ name.
+      elim (there_or_missing files name) [
+        | inl there ↦ let read = some_read there.0 in inl (read.0, record { bytes = there.0; is_there = there.1; is_read = read.1 })
+        | inr missing ↦ inr (tt, missing)
+      ];
+  one = λ name a b h k. one_of files (Some name) a b h k;
+  only = λ name c d h k. refl;
+  apart = λ name a c h k. apart_of files (Some name) a name h refl k;
+}
+
 pub one_database : (files : Files) → Decides (IsDatabaseOfBus files) (LacksDatabase files)
 one_database files = record {
   some = λ bus. elim (some_of files bus.database) [ inl read ↦ inl read | inr missing ↦ inr (tt, missing) ];

@@ -12,8 +12,8 @@ use std::alloc::Global;
 /// How many bytes a database may have.
 const LONGEST_DATABASE: usize = 16_777_216;
 
-/// Opens and reads the database of this name.
-fn read_database<B: Library>(
+/// Opens and reads the database of this name; it is not judged.
+pub fn read_database<B: Library>(
     alloc: Global,
     library: &mut B,
     name: &str,
