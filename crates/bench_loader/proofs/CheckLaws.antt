@@ -68,14 +68,16 @@ module _ (F : (files : Files) → Decides (HasDatabase files) (λ (name : List �
   one_check (has_database d) (has_database e) h k = ap has_database (same_database d e h k)
 
 -- the same answer by another equation
-pub checks_as : (before now : LibraryState) (name : List ℕ) (r : Result Valid CheckRefused) (why : CheckRefused) → IsErrAnd r (λ f. f ≡ why) → ChecksFile before name (Err why) now → ChecksFile before name r now
+pub checks_as : (before now : LibraryState) (name : List ℕ) (r : Result Valid CheckRefused) (why : CheckRefused)
+    → IsErrAnd r (λ f. f ≡ why) → ChecksFile before name (Err why) now → ChecksFile before name r now
 checks_as before now name (Ok valid) why h checks = absurd h
 checks_as before now name (Err f) why h checks = rw h checks
 
 module _ (before now : LibraryState) (name : List ℕ) (asks : Asks before (name ∷ []) now) where
   kept_strays : IfSome before.files (λ files. IsSome (named files name) → now.strays ≡ before.strays)
   kept_strays = go before.files asks.strays where
-    go : (told : Option Files) → now.strays ≡ strays_over told (name ∷ []) before.strays → IfSome told (λ files. IsSome (named files name) → now.strays ≡ before.strays)
+    go : (told : Option Files) → now.strays ≡ strays_over told (name ∷ []) before.strays
+        → IfSome told (λ files. IsSome (named files name) → now.strays ≡ before.strays)
     go None e = tt
     go (Some files) e = λ there. rw there at e
 
@@ -94,20 +96,25 @@ module _ (before now : LibraryState) (name : List ℕ) (asks : Asks before (name
     strays = kept_strays;
   }
 
-  held_of : (told : Option Files) (file : DatabaseFile) (d : Database) → IfSome told (λ files. HasDatabase files name file) → Holds (kind_of_name name) file d → IfSome told (λ files. HoldsNamed files name d)
+  held_of : (told : Option Files) (file : DatabaseFile) (d : Database) → IfSome told (λ files. HasDatabase files name file)
+      → Holds (kind_of_name name) file d → IfSome told (λ files. HoldsNamed files name d)
   held_of None file d has holds = tt
   held_of (Some files) file d has holds = record { file = file; is_there = has; holds = holds }
 
-  refusal_of : (told : Option Files) (file : DatabaseFile) (f : DatabaseFault) → IfSome told (λ files. HasDatabase files name file) → IsRefused (kind_of_name name) file f → IfSome told (λ files. IsRefusedNamed files name f)
+  refusal_of : (told : Option Files) (file : DatabaseFile) (f : DatabaseFault)
+      → IfSome told (λ files. HasDatabase files name file) → IsRefused (kind_of_name name) file f
+      → IfSome told (λ files. IsRefusedNamed files name f)
   refusal_of None file f has fails = tt
   refusal_of (Some files) file f has fails = record { file = file; is_there = has; refused = fails }
 
-  judge_cause : (file : DatabaseFile) (why : JudgeRefused) → IfSome before.files (λ files. HasDatabase files name file) → JudgesFile (kind_of_name name) file (Err why)
+  judge_cause : (file : DatabaseFile) (why : JudgeRefused) → IfSome before.files (λ files. HasDatabase files name file)
+      → JudgesFile (kind_of_name name) file (Err why)
       → AnswersCheck before name now (Err (of_judge why))
   judge_cause file (judges.Fault f) has h = refusal_of before.files file f has h
   judge_cause file judges.Memory has h = tt
 
-  pub stops_at_judge : (file : DatabaseFile) (why : JudgeRefused) → IfSome before.files (λ files. HasDatabase files name file) → JudgesFile (kind_of_name name) file (Err why)
+  pub stops_at_judge : (file : DatabaseFile) (why : JudgeRefused)
+      → IfSome before.files (λ files. HasDatabase files name file) → JudgesFile (kind_of_name name) file (Err why)
       → ChecksFile before name (Err (of_judge why)) now
   stops_at_judge file why has h = record {
     answer = judge_cause file why has h;
@@ -118,7 +125,8 @@ module _ (before now : LibraryState) (name : List ℕ) (asks : Asks before (name
     strays = kept_strays;
   }
 
-  pub checks : (file : DatabaseFile) (valid : Valid) → IfSome before.files (λ files. HasDatabase files name file) → JudgesFile (kind_of_name name) file (Ok valid) → IsValid valid.database
+  pub checks : (file : DatabaseFile) (valid : Valid) → IfSome before.files (λ files. HasDatabase files name file)
+      → JudgesFile (kind_of_name name) file (Ok valid) → IsValid valid.database
       → ChecksFile before name (Ok valid) now
   checks file valid has h is_valid = record {
     answer = held_of before.files file valid.database has h;

@@ -28,15 +28,18 @@ use Rattle.bench_loader.specs.Loading.{IsLoaded, IsBenchOfPlan, AnswersBench, Lo
 use Rattle.bench_loader.proofs.StrayLaws.{all_one}
 
 -- the same answer by another equation
-pub loads_as : (before now : LibraryState) (name : List ℕ) (r : Result LoadedBench LoadRefused) (why : LoadRefused) → IsErrAnd r (λ f. f ≡ why) → LoadsBench before name (Err why) now → LoadsBench before name r now
+pub loads_as : (before now : LibraryState) (name : List ℕ) (r : Result LoadedBench LoadRefused) (why : LoadRefused)
+    → IsErrAnd r (λ f. f ≡ why) → LoadsBench before name (Err why) now → LoadsBench before name r now
 loads_as before now name (Ok loaded) why h loads = absurd h
 loads_as before now name (Err f) why h loads = rw h loads
 
 -- the same of the buses as the plan has them
-pub all_of : (was now : LibraryState) (buses planned : List PlannedBus) (read : List DatabaseFile) → buses ≡ planned → ReadsAll was buses read now → ReadsAll was planned read now
+pub all_of : (was now : LibraryState) (buses planned : List PlannedBus) (read : List DatabaseFile) → buses ≡ planned
+    → ReadsAll was buses read now → ReadsAll was planned read now
 all_of was now buses planned read e all = let P : List PlannedBus → Type 0 = λ b. ReadsAll was b read now in subst P e all
 
-pub stops_of : (was now : LibraryState) (buses planned : List PlannedBus) (why : FileRefused) → buses ≡ planned → StopsReading was buses why now → StopsReading was planned why now
+pub stops_of : (was now : LibraryState) (buses planned : List PlannedBus) (why : FileRefused) → buses ≡ planned
+    → StopsReading was buses why now → StopsReading was planned why now
 stops_of was now buses planned why e stops = let P : List PlannedBus → Type 0 = λ b. StopsReading was b why now in subst P e stops
 
 front : {A : Type 0} (P : A → Type 0) (xs ys zs : List A) → xs ++ ys ≡ zs → All P zs → All P xs
@@ -58,9 +61,11 @@ module _ (no_strays : (files : Files) (names : List (List ℕ)) (n : ℕ) → Al
     go None e = tt
     go (Some files) e = λ v is not. e ∙ no_strays files (name ∷ []) before.strays (all_one (λ n. IsSome (named files n)) name (bench_there files name v is not))
 
-  databases_strays : (was now : LibraryState) (plan : Plan) → Asks before (name ∷ []) was → IsPlanOf before.files name plan → AsksFirst was (database_names plan.buses) now → Keeps now.strays
+  databases_strays : (was now : LibraryState) (plan : Plan) → Asks before (name ∷ []) was → IsPlanOf before.files name plan
+      → AsksFirst was (database_names plan.buses) now → Keeps now.strays
   databases_strays was now plan asks of first = go before.files asks.strays (rw asks.files at first.calls.strays) of where
-    go : (told : Option Files) → was.strays ≡ strays_over told (name ∷ []) before.strays → now.strays ≡ strays_over told first.asked was.strays → IsPlanOf told name plan
+    go : (told : Option Files) → was.strays ≡ strays_over told (name ∷ []) before.strays
+        → now.strays ≡ strays_over told first.asked was.strays → IsPlanOf told name plan
         → IfSome told (λ files. (v : Verdict) → IsVerdict files name v → (v ≡ missing → ⊥) → now.strays ≡ before.strays)
     go None e f p = tt
     go (Some files) e f p = λ v is not.
@@ -73,13 +78,15 @@ module _ (no_strays : (files : Files) (names : List (List ℕ)) (n : ℕ) → Al
   all_first : (was now : LibraryState) (names : List (List ℕ)) → Asks was names now → AsksFirst was names now
   all_first was now names asks = record { asked = names; unasked = []; parted = append-nil names; calls = asks }
 
-  plan_cause : (now : LibraryState) (why : PlanRefused) → AnswersPlan before name now (Err why) → AnswersBench before name now (Err (of_plan why))
+  plan_cause : (now : LibraryState) (why : PlanRefused) → AnswersPlan before name now (Err why)
+      → AnswersBench before name now (Err (of_plan why))
   plan_cause now (plans.Line n) h = h
   plan_cause now plans.Open h = h
   plan_cause now plans.Read h = h
   plan_cause now plans.Memory h = tt
 
-  pub stops_at_plan : (now : LibraryState) (why : PlanRefused) → ReadsPlan before name (Err why) now → LoadsBench before name (Err (of_plan why)) now
+  pub stops_at_plan : (now : LibraryState) (why : PlanRefused) → ReadsPlan before name (Err why) now
+      → LoadsBench before name (Err (of_plan why)) now
   stops_at_plan now why h = record {
     answer = plan_cause now why h.answer;
     valid = tt;
@@ -90,12 +97,14 @@ module _ (no_strays : (files : Files) (names : List (List ℕ)) (n : ℕ) → Al
     strays = plan_strays now h.asks;
   }
 
-  file_cause : (was now : LibraryState) (why : FileRefused) → before.open_faults ≤ was.open_faults → before.more_faults ≤ was.more_faults → Caused was now why → AnswersBench before name now (Err (of_file why))
+  file_cause : (was now : LibraryState) (why : FileRefused) → before.open_faults ≤ was.open_faults
+      → before.more_faults ≤ was.more_faults → Caused was now why → AnswersBench before name now (Err (of_file why))
   file_cause was now unread.Open opens reads c = omega (arith, c)
   file_cause was now unread.Read opens reads c = omega (arith, c)
   file_cause was now unread.Memory opens reads c = tt
 
-  pub stops_at_databases : (was now : LibraryState) (plan : Plan) (why : FileRefused) → Asks before (name ∷ []) was → IsPlanOf before.files name plan → StopsReading was plan.buses why now
+  pub stops_at_databases : (was now : LibraryState) (plan : Plan) (why : FileRefused) → Asks before (name ∷ []) was
+      → IsPlanOf before.files name plan → StopsReading was plan.buses why now
       → LoadsBench before name (Err (of_file why)) now
   stops_at_databases was now plan why asks of stops = record {
     answer = file_cause was now why asks.opens asks.reads stops.cause;
@@ -107,33 +116,40 @@ module _ (no_strays : (files : Files) (names : List (List ℕ)) (n : ℕ) → Al
     strays = databases_strays was now plan asks of stops.asks;
   }
 
-  inputs_of : (told : Option Files) (plan : Plan) (read : List DatabaseFile) → IsPlanOf told name plan → AreDatabases told plan.buses read → IfSome told (λ files. HasInputs files name plan read)
+  inputs_of : (told : Option Files) (plan : Plan) (read : List DatabaseFile) → IsPlanOf told name plan
+      → AreDatabases told plan.buses read → IfSome told (λ files. HasInputs files name plan read)
   inputs_of None plan read p d = tt
   inputs_of (Some files) plan read p d = record { has_plan = record { bytes = p.bytes; is_there = p.told; is_plan = p.is_plan }; databases_are = d }
 
-  loaded_of : (told : Option Files) (plan : Plan) (read : List DatabaseFile) (bench : Bench) → IfSome told (λ files. HasInputs files name plan read) → AreBuses (zip plan.buses read) bench.buses
+  loaded_of : (told : Option Files) (plan : Plan) (read : List DatabaseFile) (bench : Bench)
+      → IfSome told (λ files. HasInputs files name plan read) → AreBuses (zip plan.buses read) bench.buses
       → IfSome told (λ files. IsLoaded files name plan bench)
   loaded_of None plan read bench h are = tt
   loaded_of (Some files) plan read bench h are = record { databases = read; inputs = h; are_buses = are }
 
-  refusal_of : (told : Option Files) (plan : Plan) (read : List DatabaseFile) (bus : ℕ) (fault : DatabaseFault) → IfSome told (λ files. HasInputs files name plan read)
+  refusal_of : (told : Option Files) (plan : Plan) (read : List DatabaseFile) (bus : ℕ) (fault : DatabaseFault)
+      → IfSome told (λ files. HasInputs files name plan read)
       → IsFirstRefused (zip plan.buses read) (bus, fault) → IfSome told (λ files. IsRefusedBench files name bus fault)
   refusal_of None plan read bus fault h first = tt
   refusal_of (Some files) plan read bus fault h first = record { plan = plan; databases = read; inputs = h; is_first = first }
 
-  bench_cause : (now : LibraryState) (plan : Plan) (read : List DatabaseFile) (why : BenchRefused) → IfSome before.files (λ files. HasInputs files name plan read)
+  bench_cause : (now : LibraryState) (plan : Plan) (read : List DatabaseFile) (why : BenchRefused)
+      → IfSome before.files (λ files. HasInputs files name plan read)
       → JudgesBench (zip plan.buses read) (Err why) → AnswersBench before name now (Err (of_bench why))
   bench_cause now plan read (benches.Refused bus fault) h judges = refusal_of before.files plan read bus fault h judges
   bench_cause now plan read benches.Memory h judges = tt
 
-  read_inputs : (was now : LibraryState) (plan : Plan) (read : List DatabaseFile) → Asks before (name ∷ []) was → IsPlanOf before.files name plan → ReadsAll was plan.buses read now
+  read_inputs : (was now : LibraryState) (plan : Plan) (read : List DatabaseFile) → Asks before (name ∷ []) was
+      → IsPlanOf before.files name plan → ReadsAll was plan.buses read now
       → IfSome before.files (λ files. HasInputs files name plan read)
   read_inputs was now plan read asks of all =
       let Q : Option Files → Type 0 = λ files. AreDatabases files plan.buses read in
       inputs_of before.files plan read of (subst Q asks.files all.databases)
 
-  pub stops_at_bench : (was now : LibraryState) (plan : Plan) (read : List DatabaseFile) (why : BenchRefused) → Asks before (name ∷ []) was → IsPlanOf before.files name plan
-      → ReadsAll was plan.buses read now → JudgesBench (zip plan.buses read) (Err why) → LoadsBench before name (Err (of_bench why)) now
+  pub stops_at_bench : (was now : LibraryState) (plan : Plan) (read : List DatabaseFile) (why : BenchRefused)
+      → Asks before (name ∷ []) was → IsPlanOf before.files name plan
+      → ReadsAll was plan.buses read now → JudgesBench (zip plan.buses read) (Err why)
+      → LoadsBench before name (Err (of_bench why)) now
   stops_at_bench was now plan read why asks of all judges = record {
     answer = bench_cause now plan read why (read_inputs was now plan read asks of all) judges;
     valid = tt;
@@ -144,8 +160,10 @@ module _ (no_strays : (files : Files) (names : List (List ℕ)) (n : ℕ) → Al
     strays = databases_strays was now plan asks of (all_first was now (database_names plan.buses) all.asks);
   }
 
-  pub loads : (was now : LibraryState) (loaded : LoadedBench) (read : List DatabaseFile) → Asks before (name ∷ []) was → IsPlanOf before.files name loaded.plan
-      → ReadsAll was loaded.plan.buses read now → IsJudgedBench (zip loaded.plan.buses read) loaded.bench.buses → IsValidBench loaded.bench → IsBenchOfPlan loaded.plan loaded.bench
+  pub loads : (was now : LibraryState) (loaded : LoadedBench) (read : List DatabaseFile) → Asks before (name ∷ []) was
+      → IsPlanOf before.files name loaded.plan
+      → ReadsAll was loaded.plan.buses read now → IsJudgedBench (zip loaded.plan.buses read) loaded.bench.buses
+      → IsValidBench loaded.bench → IsBenchOfPlan loaded.plan loaded.bench
       → LoadsBench before name (Ok loaded) now
   loads was now loaded read asks of all judged valid planned = record {
     answer = loaded_of before.files loaded.plan read loaded.bench (read_inputs was now loaded.plan read asks of all) judged.are_buses;

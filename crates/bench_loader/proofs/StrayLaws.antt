@@ -22,18 +22,21 @@ all_none P = λ k d within. absurd (omega arith)
 pub all_one : {A : Type 0} (P : A → Type 0) (x : A) → P x → All P (x ∷ [])
 all_one P x h = All-push P [] x (all_none P) h
 
-names_there : (files : Files) (name : Option (List ℕ)) (file : DatabaseFile) → HasDatabaseOf files name file → All (λ n. IsSome (named files n)) (name_list name)
+names_there : (files : Files) (name : Option (List ℕ)) (file : DatabaseFile) → HasDatabaseOf files name file
+    → All (λ n. IsSome (named files n)) (name_list name)
 names_there files None file h = all_none (λ n. IsSome (named files n))
 names_there files (Some name) file h = all_one (λ n. IsSome (named files n)) name (there files name h.bytes h.is_there)
 
-databases_there : (files : Files) (buses : List PlannedBus) (read : List DatabaseFile) → AllZip (IsDatabaseOfBus files) buses read → All (λ n. IsSome (named files n)) (database_names buses)
+databases_there : (files : Files) (buses : List PlannedBus) (read : List DatabaseFile)
+    → AllZip (IsDatabaseOfBus files) buses read → All (λ n. IsSome (named files n)) (database_names buses)
 databases_there files [] read h = all_none (λ n. IsSome (named files n))
 databases_there files (b ∷ bs) [] h = absurd h
 databases_there files (b ∷ bs) (f ∷ fs) h =
     All-append (λ n. IsSome (named files n)) (name_list b.database) (database_names bs) (names_there files b.database f h.0) (databases_there files bs fs h.1)
 
 module _ (P : Decides IsPlan IsFault) (files : Files) (name : List ℕ) where
-  inputs_there : (p q : Plan) (read : List DatabaseFile) → HasInputs files name p read → HasPlan files name q → All (λ n. IsSome (named files n)) (database_names q.buses)
+  inputs_there : (p q : Plan) (read : List DatabaseFile) → HasInputs files name p read → HasPlan files name q
+      → All (λ n. IsSome (named files n)) (database_names q.buses)
   inputs_there p q read h k =
       let same : h.has_plan.bytes ≡ k.bytes = cc (h.has_plan.is_there, k.is_there) in
       let Q : List ℕ → Type 0 = λ b. IsPlan b p in
@@ -52,7 +55,8 @@ module _ (P : Decides IsPlan IsFault) (files : Files) (name : List ℕ) where
   bench_there (refused bus fault) is not = there files name is.inputs.has_plan.bytes is.inputs.has_plan.is_there
   bench_there (decodes run) is not = there files name is.inputs.has_plan.bytes is.inputs.has_plan.is_there
 
-  pub all_there : (v : Verdict) (plan : Plan) → IsVerdict files name v → (v ≡ missing → ⊥) → HasPlan files name plan → All (λ n. IsSome (named files n)) (database_names plan.buses)
+  pub all_there : (v : Verdict) (plan : Plan) → IsVerdict files name v → (v ≡ missing → ⊥) → HasPlan files name plan
+      → All (λ n. IsSome (named files n)) (database_names plan.buses)
   all_there missing plan is not has = absurd (not refl)
   all_there (faulty n) plan is not has = absurd (plan_or_fault plan n has is)
   all_there (refused bus fault) plan is not has = inputs_there is.plan plan is.databases is.inputs has

@@ -17,21 +17,24 @@ use Rattle.bench_loader.specs.Judging.{AreBuses}
 use Rattle.bench_loader.specs.JudgeView.{IsJudgedBench}
 use Rattle.bench_loader.specs.Loading.{IsPlanned, IsBenchOfPlan}
 
-pub are_planned : (buses : List PlannedBus) (files : List DatabaseFile) (made : List Bus) → length files ≡ length buses → AreBuses (zip buses files) made → AllZip IsPlanned buses made
+pub are_planned : (buses : List PlannedBus) (files : List DatabaseFile) (made : List Bus) → length files ≡ length buses
+    → AreBuses (zip buses files) made → AllZip IsPlanned buses made
 are_planned [] files [] same h = tt
 are_planned [] files (b ∷ bs) same h = absurd h
 are_planned (p ∷ ps) [] made same h = absurd (omega arith)
 are_planned (p ∷ ps) (f ∷ fs) [] same h = absurd h
 are_planned (p ∷ ps) (f ∷ fs) (b ∷ bs) same h = (record { name = h.0.name; kind = h.0.kind }, are_planned ps fs bs (omega arith) h.1)
 
-name_at : (buses : List PlannedBus) (made : List Bus) (i : ℕ) (p : PlannedBus) (b : Bus) → AllZip IsPlanned buses made → i < length made → (get_or made i b).name ≡ (get_or buses i p).name
+name_at : (buses : List PlannedBus) (made : List Bus) (i : ℕ) (p : PlannedBus) (b : Bus) → AllZip IsPlanned buses made
+    → i < length made → (get_or made i b).name ≡ (get_or buses i p).name
 name_at [] [] i p b h within = absurd (omega arith)
 name_at [] (y ∷ ys) i p b h within = absurd h
 name_at (x ∷ xs) [] i p b h within = absurd h
 name_at (x ∷ xs) (y ∷ ys) zero p b h within = h.0.name
 name_at (x ∷ xs) (y ∷ ys) (suc i) p b h within = name_at xs ys i p b h.1 (omega arith)
 
-names_differ : (buses : List PlannedBus) (made : List Bus) → AllZip IsPlanned buses made → AllPairs (λ (a b : PlannedBus). a.name ≢ b.name) buses → AllPairs (λ (a b : Bus). a.name ≢ b.name) made
+names_differ : (buses : List PlannedBus) (made : List Bus) → AllZip IsPlanned buses made
+    → AllPairs (λ (a b : PlannedBus). a.name ≢ b.name) buses → AllPairs (λ (a b : Bus). a.name ≢ b.name) made
 names_differ [] [] h pairs = λ i j d before within. absurd (omega arith)
 names_differ [] (y ∷ ys) h pairs = absurd h
 names_differ (x ∷ xs) made h pairs = λ i j d before within same.
@@ -45,7 +48,8 @@ name_bytes name is =
     let second = and_parts (nat_le (length name) longest_bus_name) _ first.1 in
     (grind (arith, first.0), grind (arith, second.0))
 
-valid_buses : (buses : List PlannedBus) (made : List Bus) → AllZip IsPlanned buses made → All IsPlannedBus buses → All (λ (b : Bus). IsValid b.database) made → All IsValidBus made
+valid_buses : (buses : List PlannedBus) (made : List Bus) → AllZip IsPlanned buses made → All IsPlannedBus buses
+    → All (λ (b : Bus). IsValid b.database) made → All IsValidBus made
 valid_buses [] [] h forms valid = λ k d within. absurd (omega arith)
 valid_buses [] (y ∷ ys) h forms valid = absurd h
 valid_buses (x ∷ xs) made h forms valid = λ k d within.

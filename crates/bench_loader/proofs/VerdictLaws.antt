@@ -44,7 +44,8 @@ module _ (P : Decides IsPlan IsFault) (D : (files : Files) → Decides (AllZip (
   logs : Decides (AllZip (HasBytes files)) (FirstFailsAt (HasBytes files) (IsMissing files))
   logs = decides_list (HasBytes files) (IsMissing files) (one_file files)
 
-  with_buses : (plan : Plan) (dbs : List DatabaseFile) → HasInputs files name plan dbs → (buses : List Bus) → AreBuses (zip plan.buses dbs) buses → (v : Verdict) × IsVerdict files name v
+  with_buses : (plan : Plan) (dbs : List DatabaseFile) → HasInputs files name plan dbs → (buses : List Bus)
+      → AreBuses (zip plan.buses dbs) buses → (v : Verdict) × IsVerdict files name v
   with_buses plan dbs inputs buses are =
       let bench : Bench = record { buses = buses } in
       elim (logs.some (log_names plan.buses)) [
@@ -116,13 +117,15 @@ module _ (P : Decides IsPlan IsFault) (D : (files : Files) → Decides (AllZip (
       (D files).apart l.plan.buses a l.first (subst Q (same_plan p l.plan h.has_plan l.has_plan) h.databases_are) l.lacks
 
   -- buses of the one inputs are those of the other
-  moved : (p q : Plan) (a b : List DatabaseFile) → HasInputs files name p a → HasInputs files name q b → (buses : List Bus) → AreBuses (zip p.buses a) buses → AreBuses (zip q.buses b) buses
+  moved : (p q : Plan) (a b : List DatabaseFile) → HasInputs files name p a → HasInputs files name q b → (buses : List Bus)
+      → AreBuses (zip p.buses a) buses → AreBuses (zip q.buses b) buses
   moved p q a b h k buses are =
       let Q : Plan → Type 0 = λ r. AreBuses (zip r.buses a) buses in
       let R : List DatabaseFile → Type 0 = λ d. AreBuses (zip q.buses d) buses in
       subst R (same_databases p q a b h k) (subst Q (same_plan p q h.has_plan k.has_plan) are)
 
-  buses_or_refused : (p : Plan) (a : List DatabaseFile) (buses : List Bus) (bus : ℕ) (fault : DatabaseFault) → HasInputs files name p a → AreBuses (zip p.buses a) buses → IsRefusedBench files name bus fault → ⊥
+  buses_or_refused : (p : Plan) (a : List DatabaseFile) (buses : List Bus) (bus : ℕ) (fault : DatabaseFault)
+      → HasInputs files name p a → AreBuses (zip p.buses a) buses → IsRefusedBench files name bus fault → ⊥
   buses_or_refused p a buses bus fault h are r =
       judged.apart (zip r.plan.buses r.databases) buses (bus, fault) (moved p r.plan a r.databases h r.inputs buses are) r.is_first
 
@@ -146,7 +149,8 @@ module _ (P : Decides IsPlan IsFault) (D : (files : Files) → Decides (AllZip (
   missing_or_run run (inr (inl l)) r = databases_or_none run.plan r.databases r.inputs l
   missing_or_run run (inr (inr l)) r = run_or_missing_log run r l
 
-  same_refusal : (m n : ℕ) (f g : DatabaseFault) → IsRefusedBench files name m f → IsRefusedBench files name n g → refused m f ≡ refused n g
+  same_refusal : (m n : ℕ) (f g : DatabaseFault) → IsRefusedBench files name m f → IsRefusedBench files name n g
+      → refused m f ≡ refused n g
   same_refusal m n f g h k =
       let Q : Plan → Type 0 = λ r. IsFirstRefused (zip r.buses h.databases) (m, f) in
       let R : List DatabaseFile → Type 0 = λ d. IsFirstRefused (zip k.plan.buses d) (m, f) in

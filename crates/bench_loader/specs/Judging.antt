@@ -10,7 +10,6 @@ use Rattle.ldf_grammar.specs.Described as ldf
 use Rattle.bench_file.specs.declared.plan.PlannedBus.{PlannedBus}
 use Rattle.bench_inputs.specs.declared.database_file.DatabaseFile.{DatabaseFile}
 use Rattle.bench_inputs.specs.declared.database_file.DatabaseFile.TheVariants as files
-use Rattle.decisions.specs.Decisions.{Decides}
 use Rattle.decisions.specs.ListDecisions.{FirstFailsAt}
 use Rattle.bench_loader.specs.declared.fault.DatabaseFault.{DatabaseFault}
 use Rattle.bench_loader.specs.declared.fault.DatabaseFault.TheVariants as faults
@@ -65,9 +64,3 @@ AreBuses planned buses = AllZip IsBusOf planned buses
 
 abbrev pub IsFirstRefused : List (PlannedBus × DatabaseFile) → ℕ × DatabaseFault → Type 0
 IsFirstRefused planned refused = FirstFailsAt IsBusOf IsRefusedOnBus planned refused
-
--- each DBC is one database or has one fault; and of each text it is decided whether it denotes a decimal within the limits,
--- so that each LDF is
-pub record AreFilesDecided : Type 0 where
-  pub databases : Decides dbc.IsDatabaseOf dbc.HasFault
-  pub decimals : (text : List ℕ) → ldf.IsDecided text

@@ -1,15 +1,16 @@
 //! Judging the file of a database.
 
-ghost use Rattle.std.specs.Prelude.{◌≡◌, ◌⊎◌, ◌≤◌, List as AnyList, length, zip, IsOkAnd, IsErrOf};
+ghost use Rattle.std.specs.Prelude.{◌≡◌, ◌⊎◌, ◌≤◌, ℕ, List as AnyList, length, zip, IsOkAnd, IsErrOf};
 ghost use Rattle.bench_model.specs.declared.database.Database.{Database as AnyDatabase};
 ghost use Rattle.bench_model.specs.declared.database.Bus.{Bus as AnyBus};
 ghost use Rattle.bench_model.specs.ValidBench.{most_buses};
+ghost use Rattle.bench_loader.specs.declared.fault.DatabaseFault.{DatabaseFault as AnyFault};
 ghost use Rattle.bench_loader.specs.declared.fault.JudgeRefused.TheVariants as refusals;
 ghost use Rattle.bench_loader.specs.declared.fault.BenchRefused.TheVariants as refused_benches;
-ghost use Rattle.bench_loader.specs.Judging.{Holds, AreBuses};
+ghost use Rattle.bench_loader.specs.Judging.{Holds, IsRefused, AreBuses, IsFirstRefused};
 ghost use Rattle.bench_loader.specs.JudgeView.{JudgesDbc, JudgesLdf, JudgesFile, JudgesBus, JudgesBench, refused_at};
 
-use crate::{BenchRefused, DatabaseFault, JudgeRefused, one_database};
+use crate::{BenchRefused, DatabaseFault, JudgeRefused, one_judgement, one_judgement_of_a_file};
 use bench_file::PlannedBus;
 use bench_inputs::DatabaseFile;
 use bench_model::{Bench, Bus, Database, Kind, Valid, check};
@@ -81,9 +82,12 @@ pub fn judge_database(alloc: Global, kind: Kind, file: &DatabaseFile) -> Result<
     // The database that the file holds is answered, unless memory runs out.
     ensures every_database { (d : AnyDatabase) → Holds kind file.now d →
         IsOkAnd result (λ valid. valid.database ≡ d) ⊎ IsErrOf result refusals.Memory }
+    // So is the fault for which it is refused.
+    ensures every_fault { (fault : AnyFault) → IsRefused kind file.now fault →
+        IsErrOf result (refusals.Fault fault) ⊎ IsErrOf result refusals.Memory }
 {
     let judged = judge_file(alloc, kind, file);
-    one_database();
+    one_judgement_of_a_file();
     judged
 }
 
@@ -147,8 +151,11 @@ pub fn judge_bench(
     // The bench that the files make is answered, unless memory runs out.
     ensures every_bench { (made : AnyList AnyBus) → AreBuses (zip buses.now files.now) made →
         IsOkAnd result (λ bench. bench.buses ≡ made) ⊎ IsErrOf result refused_benches.Memory }
+    // So is the first refusal.
+    ensures every_refusal { (bus : ℕ) (fault : AnyFault) → IsFirstRefused (zip buses.now files.now) (bus, fault) →
+        IsErrOf result (refused_benches.Refused bus fault) ⊎ IsErrOf result refused_benches.Memory }
 {
     let judged = judge_buses(alloc, buses, files);
-    one_database();
+    one_judgement();
     judged
 }

@@ -19,8 +19,7 @@ pub use check::{CheckRefused, check_file};
 pub use fault::{BenchRefused, DatabaseFault, JudgeRefused};
 pub use judge::{judge_bench, judge_database};
 pub use laws::{
-    files_of_a_verdict_are_there, one_check, one_database, one_judgement, one_judgement_of_a_file,
-    one_verdict,
+    files_of_a_verdict_are_there, one_check, one_judgement, one_judgement_of_a_file, one_verdict,
 };
 pub use load::{LoadRefused, LoadedBench, load_bench};
 

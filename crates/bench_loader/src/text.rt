@@ -1,7 +1,8 @@
 //! The text of a fault.
 
 ghost use Rattle.std.specs.Prelude.{◌≡◌, ◌++◌, ◌∷◌, OnOk, OnErr, flat_map};
-ghost use Rattle.bench_loader.specs.FaultText.{behind_blank, words_text, identifier, lex_words, mux_word, check_word, message_words, signal_words, check_words, dbc_words, ldf_words, fault_words, fault_text};
+ghost use Rattle.bench_loader.specs.FaultText.{behind_blank, words_text, identifier, mux_word, check_word, message_words, signal_words};
+ghost use Rattle.bench_loader.specs.FaultText.{lex_words, check_words, dbc_words, ldf_words, fault_words, fault_text};
 ghost use Rattle.exact_scale.specs.Buffer.{Extends};
 
 use crate::DatabaseFault;
