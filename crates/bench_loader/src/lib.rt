@@ -1,10 +1,12 @@
-//! The databases of a bench: judged file by file, and the text of a file's fault.
+//! The databases of a bench: judged file by file, loaded with their bench file, or checked alone; and the text of a
+//! file's fault.
 //!
 //! `bench_inputs` reads the files, and the grammars of DBC and LDF read their texts; here a file of a bus is its
 //! database or a `DatabaseFault`. The tool and the server are to judge their databases by this crate.
 //!
-//! Main theorem: unless memory runs out, `judge_database` gives exactly the database that a file holds on a bus of its
-//! kind, or a fault that it has where it holds none; `DatabaseFault::text` appends the fault's words.
+//! Main theorem: unless memory runs out or the library fails, `load_bench` gives exactly the bench that the named files
+//! make, or their first refusal in order, and `check_file` the database that the named file holds, or its fault;
+//! the files decide which (`laws`). `DatabaseFault::text` appends the fault's words.
 #![tactic(auto)]
 
 mod check;
