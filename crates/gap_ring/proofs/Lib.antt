@@ -17,3 +17,4 @@ pub mod OfferLaws
 pub mod TakingLaws
 pub mod PrefixLaws
 pub mod CountLaws
+pub mod MetLaws

@@ -4,7 +4,7 @@ use Rattle.std.proofs.Common.{filter, All, Option, Some, None, refl, sym, ap, �
 use Rattle.std.proofs.Common.{eq-eqb, ne_eqb, le-ltb, lt-ltb, option_to_list}
 use Rattle.std.proofs.lemmas.Nat.{mod_below}
 use Rattle.std.proofs.lemmas.Bool.{cases_Bool, cases_eq, cond-true, cond-false, cond_both}
-use Rattle.std.proofs.lemmas.List.{get_or_push}
+use Rattle.std.proofs.lemmas.List.{get_or_push, map-append}
 use Rattle.std.proofs.lemmas.List.Elements.{filter-append}
 use Rattle.bench_model.specs.declared.reading.Reading.{Reading}
 use Rattle.bench_model.specs.declared.reading.Missed.{Missed}
@@ -20,7 +20,7 @@ use Rattle.gap_ring.specs.declared.view.Did.TheVariants as did
 use Rattle.gap_ring.specs.declared.view.Putting.{Putting}
 use Rattle.gap_ring.specs.declared.view.View.{View}
 use Rattle.gap_ring.specs.Offers.{IsAttached, IsDetached, IsHeadOf, Ends, IsOffered, puts, refuses, is_put, turn_of, since_put, is_missed_in, trailing}
-use Rattle.gap_ring.specs.Offers.{missed, longer, missed_count, last_of, gap_of, gap_item, slots_needed, slots_free, lead, put_of}
+use Rattle.gap_ring.specs.Offers.{missed, longer, missed_count, last_of, gap_of, readings_of, gap_item, slots_needed, slots_free, lead, put_of}
 use Rattle.gap_ring.specs.Rule.{head_word, tail_word, attach_word, IsLead}
 use Rattle.gap_ring.specs.Steps.{entry_of, did_put, with_attach, with_offer, with_slot, with_head, is_short, slot_taken, attach_seen, head_seen, lead_put, record_put}
 use Rattle.gap_ring.specs.May.{MayOffer, MayItems, MayLead, MayReach, MayRecord}
@@ -140,6 +140,9 @@ module _ (bus slots a : ℕ) (c : Count) (reading : Reading) (v : View) (rests :
           is_offered = entry_offered None outcome.Away (even, refl);
           answered = (refl, refl);
           offers_are = refl;
+          readings_are = map-append (λ (q : Offered). q.reading) os (o ∷ []);
+          put_is = sym (append-nil p.put);
+          counted = ap gap_of (trailing_away os o refl);
           more = did.Loaded attach_word a ∷ [];
           steps_are = refl;
           are_steps = refl;
@@ -189,6 +192,9 @@ module _ (bus slots a : ℕ) (c : Count) (reading : Reading) (v : View) (rests :
           is_offered = entry_offered (Some h) outcome.Refused (odd, (h, refl, fits, short));
           answered = (refl, refl, refl);
           offers_are = refl;
+          readings_are = map-append (λ (q : Offered). q.reading) os (o ∷ []);
+          put_is = sym (append-nil p.put);
+          counted = trailing_refused os o refl;
           more = did.Loaded attach_word a ∷ did.Loaded head_word h ∷ [];
           steps_are = append_assoc p.steps (did.Loaded attach_word a ∷ []) (did.Loaded head_word h ∷ []);
           are_steps = (h, refl, refl);
@@ -234,6 +240,9 @@ module _ (bus slots a : ℕ) (c : Count) (reading : Reading) (v : View) (rests :
           is_offered = entry_offered (Some h) outcome.Put (odd, (h, refl, fits, enough));
           answered = refl;
           offers_are = offers;
+          readings_are = ap readings_of offers ∙ map-append (λ (q : Offered). q.reading) os (o ∷ []);
+          put_is = put;
+          counted = ap (λ (l : List Offered). gap_of (trailing l)) offers ∙ ap gap_of (trailing_put os o refl);
           more = more;
           steps_are = steps;
           are_steps = are;

@@ -110,6 +110,7 @@ record Goes (g g' : List Item) (c : Progress) (a : ℕ) (x : Item) (r : Bool) : 
   pub next_now : cond r (next_after c.next x) c.next ≡ next_of g'
   pub at_true : r ≡ true → g' ≡ g ++ x ∷ []
   pub at_false : r ≡ false → g' ≡ []
+  pub before : r ≡ false → g ≡ []
 
 goes : (g g' : List Item) (c : Progress) (a : ℕ) (x : Item) (r : Bool) → c.started ≡ is_begun g → c.next ≡ next_of g → r ≡ (c.started || starts_turn a x)
     → g' ≡ cond (is_begun g) (g ++ x ∷ []) (cond (starts_turn a x) (x ∷ []) []) → Goes g g' c a x r
@@ -123,6 +124,7 @@ goes g g' c a x r started next is now =
       next_now = cond-true r (next_after c.next x) c.next yes ∙ (ap (λ (n : ℕ). next_after n x) next ∙ sym (ap next_of more ∙ fold_push next_after 0 g x));
       at_true = λ _. more;
       at_false = λ no. absurd (true≢false (sym yes ∙ no));
+      before = λ no. absurd (true≢false (sym yes ∙ no));
     })
     (λ (b : is_begun g ≡ false).
     let none_yet : g ≡ [] = not_begun g b in
@@ -138,6 +140,7 @@ goes g g' c a x r started next is now =
       next_now = cond-true r (next_after c.next x) c.next yes ∙ (ap (λ (n : ℕ). next_after n x) zero_next ∙ ap next_of (sym one));
       at_true = λ _. one ∙ ap (λ (l : List Item). l ++ x ∷ []) (sym none_yet);
       at_false = λ no. absurd (true≢false (sym yes ∙ no));
+      before = λ no. absurd (true≢false (sym yes ∙ no));
     })
     (λ (s : starts_turn a x ≡ false).
     let empty : g' ≡ [] = now' ∙ cond-false (starts_turn a x) (x ∷ []) [] s in
@@ -147,6 +150,7 @@ goes g g' c a x r started next is now =
       next_now = cond-false r (next_after c.next x) c.next no ∙ (zero_next ∙ ap next_of (sym empty));
       at_true = λ yes. absurd (true≢false (sym yes ∙ no));
       at_false = λ _. empty;
+      before = λ _. none_yet;
     })
     (cases_Bool (starts_turn a x)))
     (cases_Bool (is_begun g))
@@ -246,7 +250,8 @@ module _ (slots end tail : ℕ) (c : Progress) (x : Item) (m0 m1 m2 m3 : Sat) (h
     item_made is_one = (taken_here, ap (λ (v : View). given v.taking.taken t.attach) view_here ∙ goes_here.at_true is_one)
 
     pub old_made : r ≡ false → TakeMade slots t m3.0.taking take.Old
-    old_made is_none = (x, taken_here, ap (λ (v : View). given v.taking.taken t.attach) view_here ∙ goes_here.at_false is_none)
+    old_made is_none =
+        (x, taken_here, goes_here.before is_none, ap (λ (v : View). given v.taking.taken t.attach) view_here ∙ goes_here.at_false is_none)
 
 -- the gap that is answered is that of the end
 gap_by_words : (gap : Option Missed) (next number : ℕ) (w : GapWords) → IsGapTo next number gap → w ≡ gap_words_of gap → last_version_of gap < version_limit

@@ -1,4 +1,5 @@
--- The groups that the items of a ring are made of: each is the stretch of one turn of the taker, from its Start on.
+-- The groups that the items of a ring are made of: each is the stretch of one turn of the taker, from its
+-- Start on.
 use Rattle.std.specs.Prelude.{◌≡◌, ℕ, ◌<◌, ◌≤◌, List, ◌∷◌, length, flat_map, slice_get, Some, All, AllPairs}
 use Rattle.bench_model.specs.declared.reading.Item.{Item}
 use Rattle.bench_model.specs.declared.reading.Item.TheVariants as item
@@ -44,7 +45,8 @@ pub record IsGroup (offers : List Offered) (g : Group) : Type 0 where
   pub of_turn : All (IsOfTurn offers g.turn) g.items
 
 -- the items are these groups, one after another, and their turns rise
-pub record AreGroups (bus : ℕ) (offers : List Offered) (items : List Item) (groups : List Group) : Type 0 where
+pub record AreGroups (bus : ℕ) (offers : List Offered) (items : List Item) (groups : List Group)
+    : Type 0 where
   pub joined : items ≡ flat_map (group_items bus) groups
   pub each : All (IsGroup offers) groups
   pub turns_rise : AllPairs (λ g h. g.turn < h.turn) groups

@@ -1,5 +1,6 @@
 -- Where each step of a seat may be made, by what the seat knows.
-use Rattle.std.specs.Prelude.{◌≡◌, ◌⊎◌, ℕ, ◌+◌, ◌<◌, ◌≤◌, true, false, [], length, Option, Some, None, option_to_list}
+use Rattle.std.specs.Prelude.{◌≡◌, ◌⊎◌, ℕ, ◌+◌, ◌<◌, ◌≤◌, true, false, [], length, Option, Some, None}
+use Rattle.std.specs.Prelude.{option_to_list}
 use Rattle.bench_model.specs.declared.reading.Reading.{Reading}
 use Rattle.bench_model.specs.declared.reading.Item.{Item}
 use Rattle.gap_ring.specs.declared.view.View.{View}
@@ -50,7 +51,9 @@ pub record MayRecord (bus slots : ℕ) (reading : Reading) (n : ℕ) (v : View) 
   pub room : length v.putting.offers < most_offers
   pub led : v.putting.lead ≡ lead v.putting.offers reading v.putting.attach
   pub head_is : IsHeadOf slots (length (put_of v.putting.offers)) v.putting.head
-  pub enough : slots_needed v.putting.offers reading v.putting.attach ≤ slots_free slots v.putting.head (length (put_of v.putting.offers))
+  pub enough :
+      slots_needed v.putting.offers reading v.putting.attach
+      ≤ slots_free slots v.putting.head (length (put_of v.putting.offers))
   pub count : n ≡ length v.putting.put + 1
 
 -- the gap words and the end word
@@ -91,4 +94,6 @@ pub record MayItems (bus slots : ℕ) (reading : Reading) (led : Option Item) (v
   pub room : length v.putting.offers < most_offers
   pub led_is : option_to_list led ≡ lead v.putting.offers reading v.putting.attach
   pub head_is : IsHeadOf slots (length (put_of v.putting.offers)) v.putting.head
-  pub enough : slots_needed v.putting.offers reading v.putting.attach ≤ slots_free slots v.putting.head (length (put_of v.putting.offers))
+  pub enough :
+      slots_needed v.putting.offers reading v.putting.attach
+      ≤ slots_free slots v.putting.head (length (put_of v.putting.offers))

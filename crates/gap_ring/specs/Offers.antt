@@ -1,8 +1,9 @@
--- The offers made to a ring, in order, and what they put. The protocol is this project's own: a ring takes each
--- record of a bus once, a taker is attached for a turn at a time, and a record that finds no room is refused and
--- counted.
+-- The offers made to a ring, in order, and what they put. The protocol is this project's own: a ring takes
+-- each record of a bus once, a taker is attached for a turn at a time, and a record that finds no room is
+-- refused and counted.
 use Rattle.std.specs.Prelude.{◌≡◌, ℕ, ◌+◌, ◌-◌, ◌%◌, ◌<◌, ◌≤◌, ◌==◌, ◌&&◌, Bool, true, false, cond}
-use Rattle.std.specs.Prelude.{List, [], ◌∷◌, ◌++◌, length, filter, fold, map, slice_index_or, Option, Some, None, All}
+use Rattle.std.specs.Prelude.{List, [], ◌∷◌, ◌++◌, length, filter, fold, map, slice_index_or, Option, Some}
+use Rattle.std.specs.Prelude.{None, All}
 use Rattle.bench_model.specs.declared.reading.Reading.{Reading}
 use Rattle.bench_model.specs.declared.reading.Missed.{Missed}
 use Rattle.bench_model.specs.declared.reading.Item.{Item}
@@ -71,8 +72,8 @@ abbrev pub gap_item : ℕ → Option Missed → List Item
 gap_item bus None = []
 gap_item bus (Some m) = item.Gap bus m ∷ []
 
--- what goes before a record that is put: a Start where it is the first of its turn, else the gap of what was refused
--- since the last one was put
+-- what goes before a record that is put: a Start where it is the first of its turn, else the gap of what was
+-- refused since the last one was put
 abbrev pub lead : List Offered → Reading → ℕ → List Item
 lead before reading attach =
     cond (attach == turn_of before)
@@ -107,8 +108,8 @@ IsHeadOf capacity tail head = (head ≤ tail) × (tail ≤ head + capacity)
 abbrev pub IsHeadBy : ℕ → Offered → Type 0
 IsHeadBy n o = (head : ℕ) → o.head ≡ Some head → head ≤ n
 
--- how an offer ends, by the words that it loaded: away exactly where no taker is attached, and of the others refused
--- exactly where fewer slots are free than it needs
+-- how an offer ends, by the words that it loaded: away exactly where no taker is attached, and of the others
+-- refused exactly where fewer slots are free than it needs
 abbrev pub Ends : ℕ → (attach : ℕ) → (head : Option ℕ) → (tail needed : ℕ) → Outcome → Type 0
 Ends capacity attach head tail needed outcome.Away = IsDetached attach × (head ≡ None)
 Ends capacity attach head tail needed outcome.Refused =
@@ -147,7 +148,8 @@ readings_of offers = map (λ o. o.reading) offers
 -- a gap that counts one record more
 abbrev pub longer : Option Missed → Reading → Missed
 longer None reading = missed reading 1 reading
-longer (Some m) reading = record m { count = m.count + 1; last_micros = reading.micros; last_version = reading.version }
+longer (Some m) reading =
+    record m { count = m.count + 1; last_micros = reading.micros; last_version = reading.version }
 
 -- how many records a gap counts
 abbrev pub missed_count : Option Missed → ℕ

@@ -1,6 +1,7 @@
--- The rule of a ring: how the words and the slots of its table stand to what was offered, put and taken. It holds
--- between any two steps.
-use Rattle.std.specs.Prelude.{◌≡◌, ◌⊎◌, ℕ, ◌+◌, ◌*◌, ◌^◌, ◌%◌, ◌<◌, ◌≤◌, true, false, cond, List, [], ◌++◌, length, slice_index, slice_get}
+-- The rule of a ring: how the words and the slots of its table stand to what was offered, put and taken. It
+-- holds between any two steps.
+use Rattle.std.specs.Prelude.{◌≡◌, ◌⊎◌, ℕ, ◌+◌, ◌*◌, ◌^◌, ◌%◌, ◌<◌, ◌≤◌, true, false, cond, List, [], ◌++◌}
+use Rattle.std.specs.Prelude.{length, slice_index, slice_get}
 use Rattle.std.specs.Prelude.{All, Option, Some, None}
 use mathlib.Core.Option.{some}
 use mathlib.Core.Option as maybe
@@ -59,7 +60,12 @@ no_gap_words = record { first = 0; last = 0; versions = 0 }
 
 abbrev pub gap_words_of : Option Missed → GapWords
 gap_words_of None = no_gap_words
-gap_words_of (Some m) = record { first = m.first_micros; last = m.last_micros; versions = m.first_version * version_limit + m.last_version }
+gap_words_of (Some m) =
+    record {
+      first = m.first_micros;
+      last = m.last_micros;
+      versions = m.first_version * version_limit + m.last_version;
+    }
 
 -- the view at the start: nothing was offered, and the taker is attached for its first turn
 abbrev pub first_putting : Putting
@@ -76,7 +82,8 @@ first_putting = record {
 }
 
 abbrev pub first_taking : ℕ → Taking
-first_taking bus = record { bus = bus; taken = []; attach = 1; end = 0; hand = None; done = false; known = []; steps = [] }
+first_taking bus =
+    record { bus = bus; taken = []; attach = 1; end = 0; hand = None; done = false; known = []; steps = [] }
 
 abbrev pub first_view : ℕ → View
 first_view bus = record { puts = true; takes = true; putting = first_putting; taking = first_taking bus }
@@ -137,15 +144,18 @@ pub record TakeRule (capacity : ℕ) (p : Putting) (t : Taking) (waiting : List 
   pub taken : AreTaken t.attach t.taken
   pub starts : All (IsStartBy t.attach) p.put
 
--- the slot of this item is out with a seat: that of the head with the taker, or that of the tail with the putter
+-- the slot of this item is out with a seat: that of the head with the taker, or that of the tail with the
+-- putter
 abbrev pub IsOut : Putting → Taking → List Item → ℕ → Type 0
-IsOut p t waiting k = ((k ≡ 0) × ((x : Item) × (t.hand ≡ Some x))) ⊎ ((k ≡ length waiting) × (p.holds_slot ≡ true))
+IsOut p t waiting k =
+    ((k ≡ 0) × ((x : Item) × (t.hand ≡ Some x))) ⊎ ((k ≡ length waiting) × (p.holds_slot ≡ true))
 
 -- the slots, from that of the head on, have what waits, in order, and the others nothing
 abbrev pub Slots : List (maybe.Option (Option Item)) → Putting → Taking → List Item → Type 0
 Slots homes p t waiting =
     (k : ℕ) → k < length homes
-    → (get_elem? homes ((length t.taken + k) % length homes) ≡ some (some (slice_get waiting k))) ⊎ IsOut p t waiting k
+    → (get_elem? homes ((length t.taken + k) % length homes) ≡ some (some (slice_get waiting k)))
+    ⊎ IsOut p t waiting k
 
 -- the end
 pub record EndRule (p : Putting) (t : Taking) : Type 0 where
@@ -165,7 +175,8 @@ Knows putter taker p t seat v =
     (v.puts ≡ true → (seat ≡ putter) × (v.putting ≡ p)) × (v.takes ≡ true → (seat ≡ taker) × (v.taking ≡ t))
 
 abbrev pub EachSeat : (putter taker : ℕ) → Putting → Taking → List View → Type 0
-EachSeat putter taker p t views = (seat : ℕ) (v : View) → get_elem? views seat ≡ some v → Knows putter taker p t seat v
+EachSeat putter taker p t views =
+    (seat : ℕ) (v : View) → get_elem? views seat ≡ some v → Knows putter taker p t seat v
 
 -- the rule, where the seats know this
 pub record KeptBy (bus : ℕ) (s : State (Option Item) View) (p : Putting) (t : Taking) : Type 0 where

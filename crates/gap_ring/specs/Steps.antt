@@ -1,6 +1,7 @@
--- What each step of a seat changes in its view, and what it shows. Each step enters the word that it loaded or stored in
--- its seat's log, whichever word that was.
-use Rattle.std.specs.Prelude.{◌≡◌, ℕ, ◌+◌, ◌%◌, ◌<◌, ◌≤◌, ◌==◌, nat_lt, Bool, MatchBool, All, AllPairs, true, false, cond, List, [], ◌∷◌, ◌++◌, length, Option, Some, None}
+-- What each step of a seat changes in its view, and what it shows. Each step enters the word that it loaded
+-- or stored in its seat's log, whichever word that was.
+use Rattle.std.specs.Prelude.{◌≡◌, ℕ, ◌+◌, ◌%◌, ◌<◌, ◌≤◌, ◌==◌, nat_lt, Bool, MatchBool, All, AllPairs, true}
+use Rattle.std.specs.Prelude.{false, cond, List, [], ◌∷◌, ◌++◌, length, Option, Some, None}
 use Rattle.atomic_table.specs.Table.{Me, Step}
 use Rattle.bench_model.specs.declared.reading.Reading.{Reading}
 use Rattle.bench_model.specs.declared.reading.Item.{Item}
@@ -15,10 +16,12 @@ use Rattle.gap_ring.specs.declared.view.GapWords.{GapWords}
 use Rattle.gap_ring.specs.declared.view.Putting.{Putting}
 use Rattle.gap_ring.specs.declared.view.Taking.{Taking}
 use Rattle.gap_ring.specs.declared.view.View.{View}
-use Rattle.gap_ring.specs.Offers.{IsHeadOf, IsHeadBy, slots_needed, slots_free, put_of, gap_of, trailing, last_version_of, AreOffers}
+use Rattle.gap_ring.specs.Offers.{IsHeadOf, IsHeadBy, slots_needed, slots_free, put_of, gap_of, trailing}
+use Rattle.gap_ring.specs.Offers.{last_version_of, AreOffers}
 use Rattle.gap_ring.specs.Tiles.{numbers_read}
 use Rattle.gap_ring.specs.Turns.{items_taken, AreTaken}
-use Rattle.gap_ring.specs.Rule.{first_view, gap_words_of, most_offers, head_word, tail_word, end_word, attach_word, first_word, last_word, version_limit}
+use Rattle.gap_ring.specs.Rule.{first_view, gap_words_of, most_offers, head_word, tail_word, end_word}
+use Rattle.gap_ring.specs.Rule.{attach_word, first_word, last_word, version_limit}
 
 abbrev pub Sat : Type 0
 Sat = Me (Option Item) View
@@ -43,19 +46,24 @@ did_put p what = record p { steps = p.steps ++ what ∷ [] }
 abbrev pub did_take : Taking → Did → Taking
 did_take t what = record t { steps = t.steps ++ what ∷ [] }
 
--- Each step is seen through one of these four: the log of its end grows by this very load or store, of the word that the
--- step was made on and with the value that it found or stored, and by nothing else. What else it shows is `shows`.
+-- Each step is seen through one of these four: the log of its end grows by this very load or store, of the
+-- word that the step was made on and with the value that it found or stored, and by nothing else. What else
+-- it shows is `shows`.
 abbrev pub PutterLoads : (At → Sat → ℕ → Sat → Type 0) → At → Sat → ℕ → Sat → Type 0
-PutterLoads shows st m n m' = shows st m n m' × (m'.0.putting.steps ≡ m.0.putting.steps ++ did.Loaded st.word n ∷ [])
+PutterLoads shows st m n m' =
+    shows st m n m' × (m'.0.putting.steps ≡ m.0.putting.steps ++ did.Loaded st.word n ∷ [])
 
 abbrev pub PutterStores : (At → Sat → ℕ → Sat → Type 0) → At → Sat → ℕ → Sat → Type 0
-PutterStores shows st m n m' = shows st m n m' × (m'.0.putting.steps ≡ m.0.putting.steps ++ did.Stored st.word n ∷ [])
+PutterStores shows st m n m' =
+    shows st m n m' × (m'.0.putting.steps ≡ m.0.putting.steps ++ did.Stored st.word n ∷ [])
 
 abbrev pub TakerLoads : (At → Sat → ℕ → Sat → Type 0) → At → Sat → ℕ → Sat → Type 0
-TakerLoads shows st m n m' = shows st m n m' × (m'.0.taking.steps ≡ m.0.taking.steps ++ did.Loaded st.word n ∷ [])
+TakerLoads shows st m n m' =
+    shows st m n m' × (m'.0.taking.steps ≡ m.0.taking.steps ++ did.Loaded st.word n ∷ [])
 
 abbrev pub TakerStores : (At → Sat → ℕ → Sat → Type 0) → At → Sat → ℕ → Sat → Type 0
-TakerStores shows st m n m' = shows st m n m' × (m'.0.taking.steps ≡ m.0.taking.steps ++ did.Stored st.word n ∷ [])
+TakerStores shows st m n m' =
+    shows st m n m' × (m'.0.taking.steps ≡ m.0.taking.steps ++ did.Stored st.word n ∷ [])
 
 -- the putter has loaded the attach word: an even one ends the offer
 abbrev pub with_attach : Putting → ℕ → Putting
@@ -65,7 +73,8 @@ abbrev pub with_offer : Putting → Reading → Option ℕ → Outcome → Putti
 with_offer p reading head how = record p { offers = p.offers ++ entry_of p reading head how ∷ [] }
 
 abbrev pub attach_known : Reading → ℕ → Putting → Putting
-attach_known reading n p = cond (n % 2 == 0) (with_offer (with_attach p n) reading None outcome.Away) (with_attach p n)
+attach_known reading n p =
+    cond (n % 2 == 0) (with_offer (with_attach p n) reading None outcome.Away) (with_attach p n)
 
 abbrev pub attach_seen : Reading → ℕ → Putting → Putting
 attach_seen reading n p = did_put (attach_known reading n p) (did.Loaded attach_word n)
@@ -73,12 +82,14 @@ attach_seen reading n p = did_put (attach_known reading n p) (did.Loaded attach_
 abbrev pub saw_attach : Option Reading → At → Sat → ℕ → Sat → Type 0
 saw_attach None st m n m' = Unit {0}
 saw_attach (Some reading) st m n m' =
-    (m'.0 ≡ record m.0 { putting = did_put (attach_known reading n m.0.putting) (did.Loaded st.word n) }) × (m'.1 ≡ m.1)
+    (m'.0 ≡ record m.0 { putting = did_put (attach_known reading n m.0.putting) (did.Loaded st.word n) })
+    × (m'.1 ≡ m.1)
     × (1 ≤ n) × All (λ o. o.attach ≤ n) m.0.putting.offers
 
 -- it has loaded the head: too few free slots end the offer, else it has the slot of the tail
 abbrev pub is_short : ℕ → ℕ → Putting → Reading → Bool
-is_short capacity n p reading = nat_lt (slots_free capacity n (length (put_of p.offers))) (slots_needed p.offers reading p.attach)
+is_short capacity n p reading =
+    nat_lt (slots_free capacity n (length (put_of p.offers))) (slots_needed p.offers reading p.attach)
 
 abbrev pub with_slot : Putting → Putting
 with_slot p = record p { holds_slot = true }
@@ -88,7 +99,9 @@ with_head p n = record p { head = n }
 
 abbrev pub head_known : ℕ → Reading → ℕ → Putting → Putting
 head_known capacity reading n p =
-    cond (is_short capacity n p reading) (with_offer (with_head p n) reading (Some n) outcome.Refused) (with_slot (with_head p n))
+    cond (is_short capacity n p reading)
+    (with_offer (with_head p n) reading (Some n) outcome.Refused)
+    (with_slot (with_head p n))
 
 abbrev pub head_seen : ℕ → Reading → ℕ → Putting → Putting
 head_seen capacity reading n p = did_put (head_known capacity reading n p) (did.Loaded head_word n)
@@ -99,14 +112,16 @@ slot_taken capacity p = (length p.put % capacity, None) ∷ []
 abbrev pub saw_head : Option Reading → At → Sat → ℕ → Sat → Type 0
 saw_head None st m n m' = Unit {0}
 saw_head (Some reading) st m n m' =
-    (m'.0 ≡ record m.0 { putting = did_put (head_known st.slots reading n m.0.putting) (did.Loaded st.word n) })
+    (m'.0
+    ≡ record m.0 { putting = did_put (head_known st.slots reading n m.0.putting) (did.Loaded st.word n) })
     × (m'.1 ≡ cond (is_short st.slots n m.0.putting reading) [] (slot_taken st.slots m.0.putting))
     × IsHeadOf st.slots (length (put_of m.0.putting.offers)) n
 
 -- it has loaded the head again, for the slot of the record
 abbrev pub reached : At → Sat → ℕ → Sat → Type 0
 reached st m n m' =
-    (m'.0 ≡ record m.0 { putting = did_put (with_slot m.0.putting) (did.Loaded st.word n) }) × (m'.1 ≡ slot_taken st.slots m.0.putting)
+    (m'.0 ≡ record m.0 { putting = did_put (with_slot m.0.putting) (did.Loaded st.word n) })
+    × (m'.1 ≡ slot_taken st.slots m.0.putting)
 
 -- it has stored the tail: what it had in hand was put
 abbrev pub with_lead : Item → Putting → Putting
@@ -129,18 +144,25 @@ record_in (Some (item.End bus number)) = None
 
 abbrev pub put_lead : Option Item → At → Sat → ℕ → Sat → Type 0
 put_lead None st m n m' = Unit {0}
-put_lead (Some x) st m n m' = (m'.0 ≡ record m.0 { putting = did_put (with_lead x m.0.putting) (did.Stored st.word n) }) × (m'.1 ≡ [])
+put_lead (Some x) st m n m' =
+    (m'.0 ≡ record m.0 { putting = did_put (with_lead x m.0.putting) (did.Stored st.word n) }) × (m'.1 ≡ [])
 
 abbrev pub with_record : Reading → Putting → Putting
 with_record reading p =
-    record (with_offer p reading (Some p.head) outcome.Put) { put = p.put ++ item.Reading reading ∷ []; lead = []; holds_slot = false }
+    record (with_offer p reading (Some p.head) outcome.Put) {
+      put = p.put ++ item.Reading reading ∷ [];
+      lead = [];
+      holds_slot = false;
+    }
 
 abbrev pub record_put : Reading → ℕ → Putting → Putting
 record_put reading n p = did_put (with_record reading p) (did.Stored tail_word n)
 
 abbrev pub put_record : Option Reading → At → Sat → ℕ → Sat → Type 0
 put_record None st m n m' = Unit {0}
-put_record (Some reading) st m n m' = (m'.0 ≡ record m.0 { putting = did_put (with_record reading m.0.putting) (did.Stored st.word n) }) × (m'.1 ≡ [])
+put_record (Some reading) st m n m' =
+    (m'.0 ≡ record m.0 { putting = did_put (with_record reading m.0.putting) (did.Stored st.word n) })
+    × (m'.1 ≡ [])
 
 -- it has stored a gap word
 abbrev pub with_gap_word : ℕ → ℕ → GapWords → GapWords
@@ -159,16 +181,21 @@ abbrev pub end_stored : ℕ → Putting → Putting
 end_stored n p = did_put (record p { ended = true }) (did.Stored end_word n)
 
 abbrev pub stored_end : At → Sat → ℕ → Sat → Type 0
-stored_end st m n m' = (m'.0 ≡ record m.0 { putting = did_put (record m.0.putting { ended = true }) (did.Stored st.word n) }) × (m'.1 ≡ m.1)
+stored_end st m n m' =
+    (m'.0 ≡ record m.0 { putting = did_put (record m.0.putting { ended = true }) (did.Stored st.word n) })
+    × (m'.1 ≡ m.1)
 
 -- the taker has loaded the end word
 abbrev pub end_loaded : ℕ → Taking → Taking
 end_loaded n t = did_take (record t { end = n }) (did.Loaded end_word n)
 
 abbrev pub saw_end : At → Sat → ℕ → Sat → Type 0
-saw_end st m n m' = (m'.0 ≡ record m.0 { taking = did_take (record m.0.taking { end = n }) (did.Loaded st.word n) }) × (m'.1 ≡ m.1)
+saw_end st m n m' =
+    (m'.0 ≡ record m.0 { taking = did_take (record m.0.taking { end = n }) (did.Loaded st.word n) })
+    × (m'.1 ≡ m.1)
 
--- the item that it takes next: of the ring's bus, and a record has a higher number than each that was taken before
+-- the item that it takes next: of the ring's bus, and a record has a higher number than each that was taken
+-- before
 abbrev pub IsOfBus : ℕ → Item → Type 0
 IsOfBus bus (item.Start b number turn) = b ≡ bus
 IsOfBus bus (item.Reading r) = r.bus ≡ bus
@@ -203,15 +230,22 @@ tail_loaded n t = did_take t (did.Loaded tail_word n)
 
 abbrev pub item_waits : At → Sat → ℕ → Sat → Type 0
 item_waits st m n m' =
-    (x : Item) × (m'.0 ≡ record m.0 { taking = did_take (record m.0.taking { hand = Some x }) (did.Loaded st.word n) })
-    × (m'.1 ≡ (length m.0.taking.taken % st.slots, Some x) ∷ []) × IsNext m.0.taking x × (length m.0.taking.taken < n)
+    (x : Item)
+    × (m'.0 ≡ record m.0 { taking = did_take (record m.0.taking { hand = Some x }) (did.Loaded st.word n) })
+    × (m'.1 ≡ (length m.0.taking.taken % st.slots, Some x) ∷ []) × IsNext m.0.taking x
+    × (length m.0.taking.taken < n)
 
 abbrev pub none_waits : At → Sat → ℕ → Sat → Type 0
-none_waits st m n m' = (m'.0 ≡ record m.0 { taking = did_take m.0.taking (did.Loaded st.word n) }) × (m'.1 ≡ m.1)
+none_waits st m n m' =
+    (m'.0 ≡ record m.0 { taking = did_take m.0.taking (did.Loaded st.word n) }) × (m'.1 ≡ m.1)
+
+abbrev pub at_end : List Offered → Taking → Taking
+at_end known t = record t { done = true; known = known }
 
 abbrev pub all_taken : At → Sat → ℕ → Sat → Type 0
 all_taken st m n m' =
-    (known : List Offered) × (m'.0 ≡ record m.0 { taking = did_take (record m.0.taking { done = true; known = known }) (did.Loaded st.word n) })
+    (known : List Offered)
+    × (m'.0 ≡ record m.0 { taking = did_take (at_end known m.0.taking) (did.Loaded st.word n) })
     × (m'.1 ≡ m.1) × IsAll st.slots m.0.taking known × (m.0.taking.done ≡ true → known ≡ m.0.taking.known)
 
 abbrev pub saw_tail : At → Sat → ℕ → Sat → Type 0
@@ -241,14 +275,17 @@ abbrev pub head_stored : ℕ → Taking → Taking
 head_stored n t = did_take (with_taken t) (did.Stored head_word n)
 
 abbrev pub stored_head : At → Sat → ℕ → Sat → Type 0
-stored_head st m n m' = (m'.0 ≡ record m.0 { taking = did_take (with_taken m.0.taking) (did.Stored st.word n) }) × (m'.1 ≡ [])
+stored_head st m n m' =
+    (m'.0 ≡ record m.0 { taking = did_take (with_taken m.0.taking) (did.Stored st.word n) }) × (m'.1 ≡ [])
 
 -- it has stored the attach word
 abbrev pub attach_stored : ℕ → Taking → Taking
 attach_stored n t = did_take (record t { attach = n }) (did.Stored attach_word n)
 
 abbrev pub stored_attach : At → Sat → ℕ → Sat → Type 0
-stored_attach st m n m' = (m'.0 ≡ record m.0 { taking = did_take (record m.0.taking { attach = n }) (did.Stored st.word n) }) × (m'.1 ≡ m.1)
+stored_attach st m n m' =
+    (m'.0 ≡ record m.0 { taking = did_take (record m.0.taking { attach = n }) (did.Stored st.word n) })
+    × (m'.1 ≡ m.1)
 
 -- what both ends know, once they meet
 pub record HaveMet (bus slots : ℕ) (p : Putting) (t : Taking) : Type 0 where

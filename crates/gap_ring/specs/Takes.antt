@@ -1,5 +1,6 @@
 -- What a take and a turn of the taker do: what they load, store and answer, and what stays the same.
-use Rattle.std.specs.Prelude.{◌≡◌, ℕ, ◌+◌, ◌-◌, ◌/◌, ◌%◌, ◌<◌, ◌≤◌, List, [], ◌∷◌, ◌++◌, length, true, All, Option}
+use Rattle.std.specs.Prelude.{◌≡◌, ℕ, ◌+◌, ◌-◌, ◌/◌, ◌%◌, ◌<◌, ◌≤◌, List, [], ◌∷◌, ◌++◌, length, true, All}
+use Rattle.std.specs.Prelude.{Option}
 use Rattle.bench_model.specs.declared.reading.Missed.{Missed}
 use Rattle.bench_model.specs.declared.reading.Item.{Item}
 use Rattle.gap_ring.specs.declared.answers.Take.{Take}
@@ -11,7 +12,8 @@ use Rattle.gap_ring.specs.declared.view.GapWords.{GapWords}
 use Rattle.gap_ring.specs.declared.view.Taking.{Taking}
 use Rattle.gap_ring.specs.Offers.{AreOffers, put_of, trailing, gap_of}
 use Rattle.gap_ring.specs.Turns.{items_taken, AreTaken, given, ending}
-use Rattle.gap_ring.specs.Rule.{head_word, tail_word, end_word, attach_word, first_word, last_word, versions_word, version_limit, gap_words_of}
+use Rattle.gap_ring.specs.Rule.{head_word, tail_word, end_word, attach_word, first_word, last_word}
+use Rattle.gap_ring.specs.Rule.{versions_word, version_limit, gap_words_of}
 use Rattle.gap_ring.specs.Steps.{IsNext}
 
 -- no call of the taker changes the bus, and a take leaves the turn as it is
@@ -35,7 +37,8 @@ pub record TookItem (t t' : Taking) (x : Item) : Type 0 where
   pub tail : ℕ
   pub waits : length t.taken < tail
   pub steps_are :
-      t'.steps ≡ t.steps ++ did.Loaded end_word end ∷ did.Loaded tail_word tail ∷ did.Stored head_word (length t.taken + 1) ∷ []
+      t'.steps ≡ t.steps
+      ++ did.Loaded end_word end ∷ did.Loaded tail_word tail ∷ did.Stored head_word (length t.taken + 1) ∷ []
 
 -- nothing waited and the ring goes on: the end word was 0, and then the tail was the head
 pub record FoundNothing (t t' : Taking) (tail : ℕ) : Type 0 where
@@ -69,16 +72,21 @@ pub record FoundEnd (slots : ℕ) (t t' : Taking) (number : ℕ) (gap : Option M
   pub taken_same : t'.taken ≡ t.taken
   pub same_turn : IsSameTurn t t'
   -- the gap words that were loaded are those of the trailing gap
-  pub steps_are : t'.steps ≡ t.steps ++ loads_at_end number (length t.taken) (gap_words_of (gap_of (trailing known)))
+  pub steps_are :
+      t'.steps ≡ t.steps ++ loads_at_end number (length t.taken) (gap_words_of (gap_of (trailing known)))
 
+-- what a take does: an item is given; or it stands before this turn's Start, and nothing was given yet nor is
+-- now; or nothing waits
 abbrev pub TakeMade : ℕ → Taking → Taking → Take → Type 0
-TakeMade slots t t' (take.Item x) = TookItem t t' x × (given t'.taken t.attach ≡ given t.taken t.attach ++ x ∷ [])
-TakeMade slots t t' take.Old = (x : Item) × TookItem t t' x × (given t'.taken t.attach ≡ [])
+TakeMade slots t t' (take.Item x) =
+    TookItem t t' x × (given t'.taken t.attach ≡ given t.taken t.attach ++ x ∷ [])
+TakeMade slots t t' take.Old =
+    (x : Item) × TookItem t t' x × (given t.taken t.attach ≡ []) × (given t'.taken t.attach ≡ [])
 TakeMade slots t t' (take.Empty tail) = FoundNothing t t' tail
 TakeMade slots t t' (take.Ended number gap) = FoundEnd slots t t' number gap
 
--- a turn of the taker: one store, of the next attach word. Nothing is taken by it, and nothing was given yet in the new
--- turn
+-- a turn of the taker: one store, of the next attach word. Nothing is taken by it, and nothing was given yet
+-- in the new turn
 pub record TurnMade (t t' : Taking) : Type 0 where
   pub attach_next : t'.attach ≡ t.attach + 1
   pub taken_same : t'.taken ≡ t.taken

@@ -1,5 +1,5 @@
--- Items that stand for a stretch of a list of records without a number left out or twice: each record as it is, or
--- counted in a gap.
+-- Items that stand for a stretch of a list of records without a number left out or twice: each record as it
+-- is, or counted in a gap.
 use Rattle.std.specs.Prelude.{◌≡◌, ℕ, ◌+◌, ◌-◌, ◌≤◌, List, [], ◌∷◌, All, flat_map, slice_get, Some}
 use Rattle.std.specs.List.{range_with_len}
 use Rattle.bench_model.specs.declared.reading.Reading.{Reading}

@@ -1,5 +1,6 @@
 -- What was taken, and what of it was given in one turn of the taker.
-use Rattle.std.specs.Prelude.{◌≡◌, ℕ, ◌+◌, ◌<◌, ◌≤◌, ◌==◌, Bool, true, false, cond, List, [], ◌∷◌, ◌++◌, length, map, filter, fold}
+use Rattle.std.specs.Prelude.{◌≡◌, ℕ, ◌+◌, ◌<◌, ◌≤◌, ◌==◌, Bool, true, false, cond, List, [], ◌∷◌, ◌++◌}
+use Rattle.std.specs.Prelude.{◌⊎◌, Contains, length, map, filter, fold}
 use Rattle.std.specs.Prelude.{All, AllPairs, Option, Some, None}
 use Rattle.bench_model.specs.declared.reading.Missed.{Missed}
 use Rattle.bench_model.specs.declared.reading.Item.{Item}
@@ -8,8 +9,8 @@ use Rattle.gap_ring.specs.declared.entries.Outcome.TheVariants as outcome
 use Rattle.gap_ring.specs.declared.entries.Offered.{Offered}
 use Rattle.gap_ring.specs.declared.entries.Taken.{Taken}
 use Rattle.gap_ring.specs.Offers.{turn_of, trailing, gap_of, gap_item, readings_of}
-use Rattle.gap_ring.specs.Tiles.{Tiles}
-use Rattle.gap_ring.specs.Groups.{Group, group_items, OfferWas, IsGroup}
+use Rattle.gap_ring.specs.Tiles.{Tiles, numbers_read}
+use Rattle.gap_ring.specs.Groups.{Group, group_items, OfferWas, IsGroup, AreGroups}
 
 -- the items that were taken
 abbrev pub items_taken : List Taken → List Item
@@ -64,22 +65,24 @@ abbrev pub IsGapTo : ℕ → ℕ → Option Missed → Type 0
 IsGapTo next number None = next ≡ number
 IsGapTo next number (Some m) = (m.first ≡ next) × (next + m.count ≡ number) × (1 ≤ m.count)
 
--- the gap that a taker of this turn is answered at the end: what was refused in its turn after the last record that
--- was put; none where no record was put in its turn, or none was refused after the last
+-- the gap that a taker of this turn is answered at the end: what was refused in its turn after the last
+-- record that was put; none where no record was put in its turn, or none was refused after the last
 abbrev pub ending : ℕ → List Offered → Option Missed
 ending turn offers = cond (turn_of offers == turn) (gap_of (trailing offers)) None
 
--- a turn that lasts to the end: what was given is a whole group, and with the gap at the end it tiles the records
--- offered, from its Start to the last
-pub record IsWholeTurn (bus : ℕ) (offers : List Offered) (items : List Item) (gap : Option Missed) (g : Group) : Type 0 where
+-- a turn that lasts to the end: what was given is a whole group, and with the gap at the end it tiles the
+-- records offered, from its Start to the last
+pub record IsWholeTurn (bus : ℕ) (offers : List Offered) (items : List Item) (gap : Option Missed) (g : Group)
+    : Type 0 where
   pub whole : items ≡ group_items bus g
   pub group : IsGroup offers g
   pub to_the_end : Tiles (g.items ++ gap_item bus gap) (readings_of offers) g.number (length offers)
   pub refused : (n : ℕ) → g.next ≤ n → n < length offers → OfferWas outcome.Refused offers g.turn n
 
--- a turn, whether or not it lasted to the end: what was given is its group's Start and what follows, up to some item, and
--- that tiles the records offered from the Start on
-pub record IsPartOfTurn (bus : ℕ) (offers : List Offered) (turn : ℕ) (items : List Item) (g : Group) : Type 0 where
+-- a turn, whether or not it lasted to the end: what was given is its group's Start and what follows, up to
+-- some item, and that tiles the records offered from the Start on
+pub record IsPartOfTurn (bus : ℕ) (offers : List Offered) (turn : ℕ) (items : List Item) (g : Group)
+    : Type 0 where
   pub turn_is : g.turn ≡ turn
   pub group : IsGroup offers g
   pub after : List Item
@@ -89,3 +92,13 @@ pub record IsPartOfTurn (bus : ℕ) (offers : List Offered) (turn : ℕ) (items 
   pub prefix : g.items ≡ after ++ rest
   pub next : ℕ
   pub tiles : Tiles after (readings_of offers) g.number next
+
+-- a ring as a whole: what was put is made of groups, one a turn; what was given in each turn is nothing, or a part
+-- of that turn's group; and the numbers of the records rise
+pub record AreTurns (bus : ℕ) (offers : List Offered) (put : List Item) (taken : List Taken) : Type 0 where
+  pub groups : List Group
+  pub grouped : AreGroups bus offers put groups
+  pub given_part :
+      (turn : ℕ) → (given taken turn ≡ [])
+      ⊎ ((g : Group) × Contains groups g × IsPartOfTurn bus offers turn (given taken turn) g)
+  pub numbers_rise : AllPairs (λ a b. a < b) (numbers_read put)

@@ -22,7 +22,7 @@ pub enum Take {
     Old,
     /// Nothing waits; the ring goes on.
     Empty { tail: u64 },
-    /// All was taken, and the ring has ended after this many records. The gap is that of the records that were refused
-    /// after the last one given in this turn.
+    /// All was taken, and the ring has ended after this many records. The gap is that of the records that
+    /// were refused after the last one given in this turn.
     Ended { number: u64, gap: Option<Missed> },
 }

@@ -6,7 +6,8 @@ ghost use Rattle.gap_ring.specs.Rule.{count_limit};
 
 use bench_model::{Item, Missed, Reading};
 
-/// The items put, the records offered, the turn of the last record put, and what was refused in that turn since.
+/// The items put, the records offered, the turn of the last record put, and what was refused in that turn
+/// since.
 #[derive(Clone, Copy, Debug)]
 pub struct Count {
     pub tail: u64,
@@ -29,7 +30,10 @@ impl Count {
 
     // What goes before a record that is put.
     pub(crate) fn lead(&self, reading: &Reading, attach: u64) -> Option<Item>
-        ensures { option_to_list result ≡ cond (attach == self.now.turn) (gap_item reading.now.bus self.now.missed) (items.Start reading.now.bus reading.now.number attach ∷ []) }
+        ensures { option_to_list result
+            ≡ cond (attach == self.now.turn)
+            (gap_item reading.now.bus self.now.missed)
+            (items.Start reading.now.bus reading.now.number attach ∷ []) }
     {
         if attach != self.turn {
             return Some(Item::Start {
@@ -38,20 +42,22 @@ impl Count {
                 turn: attach,
             });
         }
-        match self.missed {
-            None => None,
-            Some(missed) => Some(Item::Gap {
-                bus: reading.bus,
-                missed,
-            }),
-        }
+        let missed = self.missed?;
+        Some(Item::Gap {
+            bus: reading.bus,
+            missed,
+        })
     }
 
     // A record was refused.
     pub(crate) fn refuse(&mut self, reading: &Reading, attach: u64)
         requires number { self.old.number < count_limit }
         requires missed { missed_count self.old.missed < count_limit }
-        ensures { self.new ≡ record self.old { number = self.old.number + 1; missed = cond (attach == self.old.turn) (Some (longer self.old.missed reading.now)) self.old.missed } }
+        ensures { self.new
+            ≡ record self.old {
+              number = self.old.number + 1;
+              missed = cond (attach == self.old.turn) (Some (longer self.old.missed reading.now)) self.old.missed;
+            } }
     {
         self.number += 1;
         if attach == self.turn {

@@ -1,5 +1,5 @@
-//! What the rule of a ring remembers of each offer and of each item taken. No value of these types is made: they stand
-//! in contracts alone.
+//! What the rule of a ring remembers of each offer and of each item taken. No value of these types is made:
+//! they stand in contracts alone.
 
 use bench_model::{Item, Reading};
 

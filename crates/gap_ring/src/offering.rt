@@ -1,7 +1,8 @@
 //! How an offer is made, over the putter's seat.
 ghost use Rattle.std.specs.Prelude.{◌≡◌, ◌+◌, ◌<◌, ◌≤◌, [], length, false, Some, option_to_list};
 ghost use Rattle.gap_ring.specs.Offers.{trailing, gap_of, last_version_of};
-ghost use Rattle.gap_ring.specs.Rule.{version_limit, gap_words_of, first_word, last_word, versions_word, end_word};
+ghost use Rattle.gap_ring.specs.Rule.{version_limit, gap_words_of, first_word, last_word, versions_word};
+ghost use Rattle.gap_ring.specs.Rule.{end_word};
 ghost use Rattle.gap_ring.specs.Steps.{slot_taken};
 ghost use Rattle.gap_ring.specs.May.{MayItems, MayOffer};
 ghost use Rattle.gap_ring.specs.Ends.{IsOn, PutterRests};
@@ -27,7 +28,8 @@ fn put_items(
     reading: Reading,
 ) -> u64
     requires on { IsOn ring.now.shared.table_id seat.old }
-    requires sized { (capacity ≡ ring.now.shared.table_id.slots) × (2 ≤ capacity) × (tail + 2 ≤ 18446744073709551615) }
+    requires sized { (capacity ≡ ring.now.shared.table_id.slots) × (2 ≤ capacity)
+        × (tail + 2 ≤ 18446744073709551615) }
     requires tail { tail ≡ length seat.old.me.0.putting.put }
     requires hand { seat.old.me.1 ≡ slot_taken ring.now.shared.table_id.slots seat.old.me.0.putting }
     requires may { MayItems ring.now.shared.key ring.now.shared.table_id.slots reading lead seat.old.me.0 }
@@ -73,7 +75,8 @@ pub(crate) fn make_offer<W: Said>(
     requires may { MayOffer ring.now.shared.key reading seat.old.me.0 }
     ensures on { IsOn ring.now.shared.table_id seat.new }
     ensures rests { PutterRests count.new seat.new.me.0 × (seat.new.me.1 ≡ []) }
-    ensures made { OfferMade ring.now.shared.key ring.now.shared.table_id.slots reading seat.old.me.0 seat.new.me.0 result }
+    ensures made { OfferMade ring.now.shared.key ring.now.shared.table_id.slots reading
+        seat.old.me.0 seat.new.me.0 result }
 {
     let attach = load_attach::<W>(ring, seat, &reading);
     if attach % 2 == 0 {

@@ -1,6 +1,8 @@
 //! A ring and its two ends.
 ghost use Rattle.std.specs.Prelude.{◌≡◌, ◌≤◌, [], ◌∷◌, IfOk, replicate, slice_set};
-ghost use Rattle.std.specs.Arc.{arc_value};
+ghost use Rattle.gap_ring.specs.PutterView.{bus_of, slots_of, view_of};
+ghost use Rattle.gap_ring.specs.TakerView.{bus_of_taker, slots_of_taker, taking_of};
+ghost use Rattle.gap_ring.specs.MetView.{IsPair};
 ghost use Rattle.gap_ring.specs.Rule.{first_putting, first_taking, most_slots};
 
 use crate::count::Count;
@@ -14,13 +16,15 @@ use atomic_table::Table;
 use std::alloc::{AllocError, Global};
 use std::sync::Arc;
 
-/// A ring of a bus with this many slots, and its two ends. The taker is attached, for its first turn, which is 1.
+/// A ring of a bus with this many slots, and its two ends. The taker is attached, for its first turn, which
+/// is 1.
 pub fn ring(alloc: Global, bus: u32, capacity: usize) -> Result<(Putter, Taker), AllocError>
     requires { (2 ≤ capacity) × (capacity ≤ most_slots) }
-    ensures one { IfOk result (λ r. r.1.seat.table_id ≡ r.0.seat.table_id) }
-    ensures sized { IfOk result (λ r. (r.0.capacity ≡ capacity) × (r.1.capacity ≡ capacity)) }
-    ensures bus { IfOk result (λ r. ((arc_value r.0.ring).shared.key ≡ bus) × ((arc_value r.1.ring).shared.key ≡ bus)) }
-    ensures nothing { IfOk result (λ r. (r.0.seat.me.0.putting ≡ first_putting) × (r.1.seat.me.0.taking ≡ first_taking bus)) }
+    ensures pair { IfOk result (λ r. IsPair r.0 r.1) }
+    ensures sized { IfOk result (λ r. (slots_of r.0 ≡ capacity) × (slots_of_taker r.1 ≡ capacity)) }
+    ensures bus { IfOk result (λ r. (bus_of r.0 ≡ bus) × (bus_of_taker r.1 ≡ bus)) }
+    ensures nothing { IfOk result (λ r. ((view_of r.0).putting ≡ first_putting)
+        × (taking_of r.1 ≡ first_taking bus)) }
 {
     let mut words = [0; WORDS];
     words[ATTACH] = 1;

@@ -8,8 +8,8 @@ ghost use Rattle.gap_ring.specs.Takes.{gap_by};
 use crate::view::{GapWords, VERSION_LIMIT};
 use bench_model::{Item, Missed};
 
-/// The items taken, the attach word, whether this turn's Start was taken, and the number after the last record given in
-/// this turn.
+/// The items taken, the attach word, whether this turn's Start was taken, and the number after the last
+/// record given in this turn.
 #[derive(Clone, Copy, Debug)]
 pub struct Progress {
     pub head: u64,
@@ -24,7 +24,12 @@ impl Progress {
         requires head { self.old.head < 18446744073709551615 }
         requires number { record_number item.now < most_offers }
         ensures result { result ≡ (self.old.started || starts_turn self.old.attach item.now) }
-        ensures progress { self.new ≡ record self.old { head = self.old.head + 1; started = result; next = cond result (next_after self.old.next item.now) self.old.next } }
+        ensures progress { self.new
+            ≡ record self.old {
+              head = self.old.head + 1;
+              started = result;
+              next = cond result (next_after self.old.next item.now) self.old.next;
+            } }
     {
         self.head += 1;
         let starts = match item {
@@ -48,7 +53,10 @@ impl Progress {
 
     // The gap up to the end, of which the gap words tell.
     pub(crate) fn gap_to(&self, number: u64, words: GapWords) -> Option<Missed>
-        ensures { result ≡ cond (self.now.started && nat_lt self.now.next number) (Some (gap_by self.now.next number words)) None }
+        ensures { result
+            ≡ cond (self.now.started && nat_lt self.now.next number)
+            (Some (gap_by self.now.next number words))
+            None }
     {
         if self.started && self.next < number {
             Some(Missed {

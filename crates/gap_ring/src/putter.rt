@@ -22,7 +22,8 @@ pub struct Putter {
     pub(crate) capacity: u64,
     pub(crate) count: Count,
     ghost on: { IsOn (arc_value ring).shared.table_id seat },
-    ghost sized: { (capacity ≡ (arc_value ring).shared.table_id.slots) × (2 ≤ capacity) × (capacity ≤ most_slots) },
+    ghost sized: { (capacity ≡ (arc_value ring).shared.table_id.slots) × (2 ≤ capacity)
+        × (capacity ≤ most_slots) },
     ghost rests: { PutterRests count seat.me.0 × (seat.me.1 ≡ []) },
 }
 
@@ -37,7 +38,8 @@ impl Putter {
         requires bus { reading.bus ≡ bus_of self.old }
         requires number { (reading.number ≡ length (offers_of self.old)) × (reading.number < most_offers) }
         requires open { has_ended self.old ≡ false }
-        ensures made { OfferMade (bus_of self.old) (slots_of self.old) reading (view_of self.old) (view_of self.new) result }
+        ensures made { OfferMade (bus_of self.old) (slots_of self.old) reading
+            (view_of self.old) (view_of self.new) result }
         ensures same { IsSameRing self.old self.new }
     {
         make_offer::<W>(
@@ -54,14 +56,15 @@ impl Putter {
         requires bus { reading.bus ≡ bus_of self.old }
         requires number { (reading.number ≡ length (offers_of self.old)) × (reading.number < most_offers) }
         requires open { has_ended self.old ≡ false }
-        ensures made { OfferMade (bus_of self.old) (slots_of self.old) reading (view_of self.old) (view_of self.new) result }
+        ensures made { OfferMade (bus_of self.old) (slots_of self.old) reading
+            (view_of self.old) (view_of self.new) result }
         ensures same { IsSameRing self.old self.new }
     {
         self.offer_said::<Brand>(reading)
     }
 
-    /// Ends the offers: the taker finds the end once it has taken all that was put. It takes no memory and waits for
-    /// nothing.
+    /// Ends the offers: the taker finds the end once it has taken all that was put. It takes no memory and
+    /// waits for nothing.
     pub fn end(&mut self)
         requires open { has_ended self.old ≡ false }
         ensures made { EndMade (view_of self.old) (view_of self.new) }

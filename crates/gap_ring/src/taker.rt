@@ -20,7 +20,8 @@ pub struct Taker {
     pub(crate) capacity: u64,
     pub(crate) progress: Progress,
     ghost on: { IsOn (arc_value ring).shared.table_id seat },
-    ghost sized: { (capacity ≡ (arc_value ring).shared.table_id.slots) × (2 ≤ capacity) × (capacity ≤ most_slots) },
+    ghost sized: { (capacity ≡ (arc_value ring).shared.table_id.slots) × (2 ≤ capacity)
+        × (capacity ≤ most_slots) },
     ghost rests: { TakerRests progress seat.me.0 × (seat.me.1 ≡ []) },
 }
 

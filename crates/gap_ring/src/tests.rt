@@ -1,10 +1,9 @@
-//! What no clause shows: that each call succeeds with ample memory, runs worked out by hand, and that both ends may
-//! go to another thread and be dropped.
+//! What no clause shows: that each call succeeds with ample memory, runs worked out by hand, and that both
+//! ends may go to another thread and be dropped.
 ghost use Rattle.std.specs.Prelude.{◌≡◌, ◌+◌, ◌<◌, false, length};
 ghost use Rattle.gap_ring.specs.Offers.{IsAttached};
-ghost use Rattle.gap_ring.specs.TakerView.{turn_of_taker};
+ghost use Rattle.gap_ring.specs.TakerView.{ring_of_taker, turn_of_taker};
 ghost use Rattle.gap_ring.specs.PutterView.{ring_of, bus_of, offers_of, has_ended};
-ghost use Rattle.std.specs.Arc.{arc_value};
 
 use crate::{Met, Offer, Putter, Take, Taker, meet, ring};
 use bench_model::{Body, Item, Missed, Reading};
@@ -25,7 +24,8 @@ enum Answer {
 fn offer(putter: &mut Putter, number: u64) -> Answer
     requires ring { (bus_of putter.old ≡ 0) × (has_ended putter.old ≡ false) }
     requires number { (number ≡ length (offers_of putter.old)) × (number < 1000000) }
-    ensures ring { (bus_of putter.new ≡ 0) × (has_ended putter.new ≡ false) × (ring_of putter.new ≡ ring_of putter.old) }
+    ensures ring { (bus_of putter.new ≡ 0) × (has_ended putter.new ≡ false)
+        × (ring_of putter.new ≡ ring_of putter.old) }
     ensures number { length (offers_of putter.new) ≡ number + 1 }
 {
     offer_under(putter, number, 0)
@@ -35,7 +35,8 @@ fn offer(putter: &mut Putter, number: u64) -> Answer
 fn offer_under(putter: &mut Putter, number: u64, version: u32) -> Answer
     requires ring { (bus_of putter.old ≡ 0) × (has_ended putter.old ≡ false) }
     requires number { (number ≡ length (offers_of putter.old)) × (number < 1000000) }
-    ensures ring { (bus_of putter.new ≡ 0) × (has_ended putter.new ≡ false) × (ring_of putter.new ≡ ring_of putter.old) }
+    ensures ring { (bus_of putter.new ≡ 0) × (has_ended putter.new ≡ false)
+        × (ring_of putter.new ≡ ring_of putter.old) }
     ensures number { length (offers_of putter.new) ≡ number + 1 }
 {
     let reading = Reading {
@@ -67,7 +68,7 @@ enum Got {
 fn take(taker: &mut Taker) -> Got
     requires { IsAttached (turn_of_taker taker.old) }
     ensures turn { turn_of_taker taker.new ≡ turn_of_taker taker.old }
-    ensures ring { (arc_value taker.new.ring).shared.table_id ≡ (arc_value taker.old.ring).shared.table_id }
+    ensures ring { ring_of_taker taker.new ≡ ring_of_taker taker.old }
 {
     match taker.take() {
         Take::Item { item } => match item {
@@ -166,7 +167,6 @@ fn a_new_turn_drops_the_items_of_the_one_before(rt: HostRuntime) -> Result<(), F
 fn two_ends_meet(rt: HostRuntime) -> Result<(), Fail> {
     let (putter, taker) = ring(rt.alloc(), 0, 2)?;
     let met = meet(putter, taker);
-    assert_eq!(rt; met.capacity, 2);
     assert_eq!(rt; met.put, 0);
     assert_eq!(rt; met.taken, 0);
     Ok(())
@@ -207,7 +207,6 @@ fn two_sessions_find_the_end_and_the_ends_meet(rt: HostRuntime) -> Result<(), Fa
         }
     );
     let met = meet(putter, taker);
-    assert_eq!(rt; met.capacity, 3);
     assert_eq!(rt; met.put, 3);
     assert_eq!(rt; met.taken, 3);
     Ok(())

@@ -1,6 +1,6 @@
-//! One thread offers 100,000 records and another takes them, in turns of uneven length. What was taken is checked by
-//! code of its own: each turn tiles the records from its Start on, and what was given and missed is what was put and
-//! refused.
+//! One thread offers 100,000 records and another takes them, in turns of uneven length. What was taken is
+//! checked by code of its own: each turn tiles the records from its Start on, and what was given and missed
+//! is what was put and refused.
 ghost use Rattle.std.specs.Prelude.{◌≡◌, ◌+◌, ◌*◌, ◌≤◌, false, length};
 ghost use Rattle.gap_ring.specs.PutterView.{bus_of, offers_of, has_ended};
 ghost use Rattle.gap_ring.specs.TakerView.{turn_of_taker};
