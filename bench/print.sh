@@ -9,11 +9,11 @@ top="$(cd "$(dirname "${BASH_SOURCE[0]}")/.." && pwd)"
 work="$(mktemp -d)"
 trap 'rm -rf "$work"' EXIT
 mkdir -p "$work/crates/print_speed/src"
-for crate in port_io byte_forms exact_scale multiplex_tree bench_model subscriber_text; do
+for crate in port_io byte_forms text_words exact_scale multiplex_tree bench_model subscriber_text; do
     cp -a "$top/crates/$crate" "$work/crates/"
 done
 cp "$top/HANDLES" "$work/"
-grep -E '^(#|port_io:|byte_forms:|exact_scale:|multiplex_tree:|bench_model:|subscriber_text:)' "$top/crates.txt" > "$work/crates.txt"
+grep -E '^(#|port_io:|byte_forms:|text_words:|exact_scale:|multiplex_tree:|bench_model:|subscriber_text:)' "$top/crates.txt" > "$work/crates.txt"
 echo "print_speed: subscriber_text exact_scale multiplex_tree bench_model anyhow" >> "$work/crates.txt"
 cat > "$work/crates/print_speed/src/main.rt" <<'RATTLE'
 //! Appends records of ten signals to a buffer.

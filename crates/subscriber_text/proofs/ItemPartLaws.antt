@@ -30,7 +30,7 @@ label-plain : (label : Option (List ℕ)) → list_all no_feed (label_words labe
 label-plain None = refl
 label-plain (Some label) = rw (quoted-plain label) refl
 
-signal-plain : (s : SignalValue) → no_feed s.name ≡ true
+pub signal-plain : (s : SignalValue) → no_feed s.name ≡ true
     → no_feed (codes "s" ++ flat_map behind_blank (s.name ∷ signed_decimal s.raw ∷ decimal_text s.value.num s.value.k ∷ quoted s.unit ∷ label_words s.label)) ≡ true
 signal-plain s named =
     plain-append (codes "s") (flat_map behind_blank (s.name ∷ signed_decimal s.raw ∷ decimal_text s.value.num s.value.k ∷ quoted s.unit ∷ label_words s.label)) refl
@@ -237,7 +237,7 @@ reading_lines w r named signals within =
     }
 
 -- the text of an item is empty, or a line and lines of signals
-item_form : (w : WantList) (i : Item) → is_plainly_named i ≡ true → (item_text w i ≡ []) ⊎ HasLines w (bus_of i) (item_text w i)
+pub item_form : (w : WantList) (i : Item) → is_plainly_named i ≡ true → (item_text w i ≡ []) ⊎ HasLines w (bus_of i) (item_text w i)
 item_form w (item.Start bus number turn) p = elim (cases_Bool (wants_bus w bus)) [
   | inl wanted ↦ inr (rw wanted (number_line w bus (codes "start") number refl refl (within_names w bus wanted)))
   | inr unwanted ↦ inl (rw unwanted refl)

@@ -9,3 +9,4 @@ pub mod PartLaws
 pub mod ItemPartLaws
 pub mod CutLaws
 pub mod GoLaws
+pub mod WantedLaws

@@ -7,8 +7,8 @@ use Rattle.bench_model.specs.declared.reading.SignalValue.{SignalValue}
 use Rattle.bench_model.specs.declared.reading.Item.{Item}
 use Rattle.bench_model.specs.declared.reading.Item.TheVariants as item
 use Rattle.text_words.specs.Words.{is_empty, is_blank, words_of}
-use Rattle.subscriber_text.specs.Wants.{WantList}
-use Rattle.subscriber_text.specs.ItemText.{header_text, message_of, signals_of, item_text, items_text}
+use Rattle.subscriber_text.specs.Wants.{WantList, wants_bus}
+use Rattle.subscriber_text.specs.ItemText.{header_text, message_of, signals_of, bus_name, item_text, items_text}
 
 -- the lines of a text, each with its line feed; the last one has none where the text does not end in one
 unfoldable pub fed_lines : List ℕ → List (List ℕ)
@@ -49,6 +49,17 @@ bus_lines bus before (line ∷ lines) =
 -- the part of a text of items that is of a bus
 abbrev pub part_of : List ℕ → List ℕ → List ℕ
 part_of text bus = bus_lines bus false (fed_lines text)
+
+-- the lines, behind a line that stands in the parts of these buses, each stand in the part of a wanted bus
+unfoldable pub AreOfWanted : WantList → (ℕ → Bool) → List (List ℕ) → Type 0
+AreOfWanted w before [] = Unit {0}
+AreOfWanted w before (line ∷ lines) =
+    ((bus : ℕ) × (wants_bus w bus ≡ true) × (belongs (bus_name w bus) (before bus) line ≡ true))
+    × AreOfWanted w (λ bus. belongs (bus_name w bus) (before bus) line) lines
+
+-- each line of a text stands in the part of a wanted bus
+abbrev pub IsOfWantedBuses : WantList → List ℕ → Type 0
+IsOfWantedBuses w text = AreOfWanted w (λ bus. false) (fed_lines text)
 
 -- a session's text is the header of its format, and then this rest
 abbrev pub IsBehindHeader : WantList → List ℕ → List ℕ → Type 0

@@ -7,7 +7,8 @@ ghost use Rattle.bench_model.specs.declared.reading.Item.{Item};
 ghost use Rattle.subscriber_text.specs.Wants.{WantList};
 ghost use Rattle.subscriber_text.specs.BeforeGo.{is_go, before_go, bytes_of};
 ghost use Rattle.subscriber_text.specs.ItemText.{bus_name, items_text};
-ghost use Rattle.subscriber_text.specs.Parts.{fed_lines, AreBusNames, is_plainly_named, part_of, items_of, IsCutText, IsBehindHeader};
+ghost use Rattle.subscriber_text.specs.Parts.{fed_lines, AreBusNames, is_plainly_named, part_of, items_of};
+ghost use Rattle.subscriber_text.specs.Parts.{IsOfWantedBuses, IsCutText, IsBehindHeader};
 
 /// In a text of items of several buses the part of a bus is the text of its items: where the names of the buses are
 /// different words, and no line feed stands in the names of messages and signals.
@@ -16,6 +17,14 @@ pub fn the_part_of_a_bus_is_the_text_of_its_items()
         → bus < length wants.names
         → list_all is_plainly_named items ≡ true
         → part_of (items_text wants items) (bus_name wants bus) ≡ items_text wants (items_of items bus) }
+{}
+
+/// Each line of a text of items stands in the part of a wanted bus: where the names of the buses are words, and no
+/// line feed stands in the names of messages and signals.
+pub fn each_line_is_of_a_wanted_bus()
+    ensures { (wants : WantList) (items : List Item) → AreBusNames wants.names
+        → list_all is_plainly_named items ≡ true
+        → IsOfWantedBuses wants (items_text wants items) }
 {}
 
 /// A prefix of a text of items is whole items and a prefix of the next.

@@ -26,8 +26,9 @@ pub use before_go::{Asking, wants_before_go};
 pub use fault::{PrintRefused, WantsFault};
 pub use item::append;
 pub use laws::{
-    a_prefix_of_items_is_whole_but_for_the_last, the_part_of_a_bus_is_the_text_of_its_items,
-    the_rest_behind_the_header_is_one, the_wants_end_at_the_first_go,
+    a_prefix_of_items_is_whole_but_for_the_last, each_line_is_of_a_wanted_bus,
+    the_part_of_a_bus_is_the_text_of_its_items, the_rest_behind_the_header_is_one,
+    the_wants_end_at_the_first_go,
 };
 pub use printing::{header, print};
 pub use wants::Wants;
