@@ -1,6 +1,6 @@
 #!/usr/bin/env bash
 # How fast a database of 16 MiB is read, how its time grows from 8 MiB to 16 MiB, and how much memory it takes: a small
-# program that stands on the crate of the format is proved and built in a folder of its own. Each run is made five times,
+# program that stands on the crate of the format is proved and built in a folder of its own. Each run is made nine times,
 # and the least processor time counts. Wanted: at most 2.3 times the time for twice the size, 15 MB a second, and memory
 # of at most 24 times the file.
 #
@@ -28,20 +28,20 @@ import os, resource, subprocess, sys
 program, half, whole = sys.argv[1:]
 
 
-def least(name):
-    best = None
-    for _ in range(5):
-        before = resource.getrusage(resource.RUSAGE_CHILDREN)
-        text = subprocess.run([program, name], capture_output=True, check=True, text=True).stdout
-        after = resource.getrusage(resource.RUSAGE_CHILDREN)
-        taken = after.ru_utime + after.ru_stime - before.ru_utime - before.ru_stime
-        best = taken if best is None else min(best, taken)
+def taken(name):
+    before = resource.getrusage(resource.RUSAGE_CHILDREN)
+    text = subprocess.run([program, name], capture_output=True, check=True, text=True).stdout.strip()
+    after = resource.getrusage(resource.RUSAGE_CHILDREN)
+    return after.ru_utime + after.ru_stime - before.ru_utime - before.ru_stime, text
+
+
+# in turn, so that what else runs on the machine slows both
+runs = [(taken(half), taken(whole)) for _ in range(9)]
+least = [min(run[place] for run in runs) for place in (0, 1)]
+for name, (seconds, text) in zip((half, whole), least):
     size = os.path.getsize(name)
-    print(f"{size} bytes: {text.strip()}, {best:.2f} s, {size / 1e6 / best:.1f} MB a second", flush=True)
-    return best
-
-
-print(f"twice the size takes {1 / least(half) * least(whole):.2f} times as long")
+    print(f"{size} bytes: {text}, {seconds:.2f} s, {size / 1e6 / seconds:.1f} MB a second")
+print(f"twice the size takes {least[1][0] / least[0][0]:.2f} times as long")
 memory = int(subprocess.run(["/usr/bin/time", "-f", "%M", program, whole], capture_output=True, check=True, text=True).stderr)
 print(f"memory: {memory} kB, {memory * 1024 / os.path.getsize(whole):.1f} times the file")
 PYTHON

@@ -2,10 +2,8 @@
 pub mod Judging
 pub mod Verdict
 pub mod FaultText
--- the phases up to the bench, and the check of a file
-pub mod Loading
+-- the check of a file
 pub mod Checking
 -- how values of the code are seen
 pub mod JudgeView
-pub mod Refusals
 pub mod CheckRefusals

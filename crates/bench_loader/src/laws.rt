@@ -1,18 +1,15 @@
 //! Laws of the files of a bench. Each function is a law: it does nothing, and its clauses are proved of the definitions.
 
-ghost use Rattle.std.specs.Prelude.{◌≡◌, ℕ, List, All, IsSome};
+ghost use Rattle.std.specs.Prelude.{◌≡◌, ℕ, List};
 ghost use Rattle.decisions.specs.Decisions.{Decides};
 ghost use Rattle.bench_model.specs.declared.database.Kind.{Kind};
 ghost use Rattle.bench_model.specs.declared.database.Database.{Database};
 ghost use Rattle.bench_inputs.specs.declared.database_file.DatabaseFile.{DatabaseFile};
-ghost use Rattle.bench_file.specs.declared.plan.Plan.{Plan};
 ghost use Rattle.bench_inputs.specs.Asking.{Files};
-ghost use Rattle.bench_inputs.specs.BenchFiles.{HasPlan, database_names};
-ghost use Rattle.port_io.specs.Library.{named};
 ghost use Rattle.bench_loader.specs.declared.fault.DatabaseFault.{DatabaseFault};
 ghost use Rattle.bench_loader.specs.Judging.{Holds, IsRefused, IsBusOf, IsRefusedOnBus};
 ghost use Rattle.bench_loader.specs.Checking.{CheckVerdict, IsCheckVerdict};
-ghost use Rattle.bench_loader.specs.Verdict.{Verdict, missing, IsVerdict};
+ghost use Rattle.bench_loader.specs.Verdict.{Verdict, IsVerdict};
 
 use bench_file::one_plan_or_one_fault;
 use bench_inputs::{one_reading_of_a_database, one_reading_of_databases};
@@ -54,15 +51,4 @@ pub fn one_check()
 {
     one_reading_of_a_database();
     one_judgement_of_a_file();
-}
-
-/// Where the verdict of a bench's files is not that one is missing, its bench file is there, and each database that its
-/// plan names.
-pub fn files_of_a_verdict_are_there()
-    ensures bench { (files : Files) (name : List ℕ) (v : Verdict) → IsVerdict files name v → (v ≡ missing → ⊥)
-        → IsSome (named files name) }
-    ensures databases { (files : Files) (name : List ℕ) (v : Verdict) (plan : Plan) → IsVerdict files name v
-        → (v ≡ missing → ⊥) → HasPlan files name plan → All (λ n. IsSome (named files n)) (database_names plan.buses) }
-{
-    one_plan_or_one_fault();
 }

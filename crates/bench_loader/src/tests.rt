@@ -1,4 +1,4 @@
-//! Files judged, checked and loaded, and the words of every fault.
+//! Files judged and checked, and the words of every fault.
 
 use super::*;
 use bench_model::Database;
@@ -8,7 +8,6 @@ use std::alloc::{AllocError, Global};
 mod checking;
 mod fault_text;
 mod judging;
-mod loading;
 
 const ENGINE: &[u8] =
     b"VERSION \"\"\nBO_ 256 Engine: 8 ECU\n SG_ Speed : 0|16@1+ (0.25,0) [0|16383.75] \"rpm\" X\n";

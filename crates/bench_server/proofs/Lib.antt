@@ -1,19 +1,12 @@
-pub mod Guards
-pub mod BusLaws
-pub mod ByteLaws
-pub mod FrameLaws
-pub mod LogLaws
-pub mod TextLaws
-pub mod WordLaws
-pub mod FrameBodyLaws
-pub mod WritingLaws
-pub mod Sequences
-pub mod NameLaws
-pub mod EndLaws
-pub mod LogOf
-pub mod ToolLaws
-pub mod OneLog
-pub mod OneBench
-pub mod OneEnd
-pub mod SomeEnd
-pub mod ExactLaws
+mod OptionLaws
+mod LogLaws
+mod StopLaws
+mod StrayLaws
+mod EndLaws
+mod DecodeLaws
+mod PhaseLaws
+mod LoadLaws
+mod CountLaws
+mod CheckLaws
+mod PieceLaws
+mod ToolLaws

@@ -1,57 +1,152 @@
--- The lines of a log and their frames.
-use Rattle.std.proofs.Common.{◌≡◌, ℕ, ◌+◌, suc, List, [], ◌∷◌, ◌++◌, length, Some, None, refl, ap, sym, ◌∙◌, append_assoc}
-use Rattle.std.proofs.lemmas.List.{append-nil}
-use Rattle.byte_forms.specs.Lines.{all_lines}
-use Rattle.bench_server.specs.declared.log_file.Frame.{Frame}
-use Rattle.bench_server.specs.LogFile.{SpellsFrame, IsLog, IsLogFault}
-use Rattle.bench_server.specs.LogReading.{frame_of}
-use Rattle.bench_server.proofs.FrameLaws.{frame_of_takes, no_frame}
+-- Logs that were opened and then read: what was taken of each and what is left are the bytes of its file.
+use Rattle.std.proofs.Common.{◌≡◌, ℕ, suc, List, [], ◌∷◌, ◌++◌, length, take, map, Option, Some, None, refl, sym, ap, subst, ◌∙◌, false}
+use Rattle.std.specs.Option.{IsSome, option_map}
+use Rattle.std.specs.List.{All, AllZip, AllByRecursion}
+use Rattle.std.proofs.lemmas.Option.{none-some, same_Some}
+use Rattle.std.proofs.lemmas.List.Elements.{All-from_recursion}
+use Rattle.std.specs.Io.KnownBytes.{append_known, prepend_known}
+use Rattle.port_io.specs.OtherSide.{SourceState}
+use Rattle.bus_text.specs.Printing.{TakesBytes}
+use Rattle.bench_inputs.specs.Asking.{Files}
+use Rattle.bench_inputs.specs.BenchFiles.{HasBytes}
+use Rattle.bench_inputs.specs.Reading.{IsFresh}
+use Rattle.bench_text.specs.LogsRead.{HaveLeft, HasRead, IsReadToEnd}
+use Rattle.bench_server.proofs.OptionLaws.{no_value}
+use Rattle.bench_server.specs.Outcomes.{IsHeard, IsUnread, IsLogOf, IsLogNamed}
 
--- one line and its frame more
-pub IsLog-push : (lines : List (List ℕ)) (frames : List Frame) (line : List ℕ) (frame : Frame) → IsLog lines frames → SpellsFrame line frame → IsLog (lines ++ line ∷ []) (frames ++ frame ∷ [])
-IsLog-push [] [] line frame h s = (s, tt)
-IsLog-push [] (f ∷ frames) line frame h s = absurd h
-IsLog-push (l ∷ lines) [] line frame h s = absurd h
-IsLog-push (l ∷ lines) (f ∷ frames) line frame h s = (h.0, IsLog-push lines frames line frame h.1 s)
+-- a log that was opened of told files has the named file's bytes left
+pub record OpenedOf (files : Files) (name bytes : List ℕ) (log : SourceState) : Type 0 where
+  pub is_there : HasBytes files name bytes
+  pub left : log.left ≡ Some bytes
+  pub taken : log.taken ≡ Some []
 
--- a frame a line
-pub IsLog-length : (lines : List (List ℕ)) (frames : List Frame) → IsLog lines frames → length lines ≡ length frames
-IsLog-length [] [] h = refl
-IsLog-length [] (f ∷ frames) h = absurd h
-IsLog-length (l ∷ lines) [] h = absurd h
-IsLog-length (l ∷ lines) (f ∷ frames) h = ap suc (IsLog-length lines frames h.1)
+opened_with : (files : Files) (name : List ℕ) (log : SourceState) (left : Option (List ℕ)) → log.left ≡ left → IsFresh (Some files) name log
+    → (bytes : List ℕ) × OpenedOf files name bytes log
+opened_with files name log None e f = absurd (no_value (List ℕ) (subst (λ (o : Option (List ℕ)). IsSome o) e f.bytes.1))
+opened_with files name log (Some bytes) e f = (
+  bytes,
+  record {
+    is_there = f.bytes.0 ∙ e;
+    left = e;
+    taken = f.none_taken ∙ ap (λ (o : Option (List ℕ)). option_map (λ _. []) o) e;
+  },
+)
 
--- the lines before the rest, and the frames so far
-abbrev pub ReadSoFar : List ℕ → List ℕ → List Frame → Type 0
-ReadSoFar bytes rest frames = (before : List (List ℕ)) × (all_lines bytes ≡ before ++ all_lines rest) × IsLog before frames
+pub opened_of : (files : Files) (name : List ℕ) (log : SourceState) → IsFresh (Some files) name log → (bytes : List ℕ) × OpenedOf files name bytes log
+opened_of files name log f = opened_with files name log log.left refl f
 
--- one more line was read
-pub read_more : (bytes rest line after : List ℕ) (frames more : List Frame) (frame : Frame) → ReadSoFar bytes rest frames → all_lines rest ≡ line ∷ all_lines after →
-    Some frame ≡ frame_of line → more ≡ frames ++ frame ∷ [] → ReadSoFar bytes after more
-read_more bytes rest line after frames more frame so_far e some push =
-    let before = so_far.0 in (
-      before ++ line ∷ [],
-      so_far.1 ∙ ap (λ (ls : List (List ℕ)). before ++ ls) e ∙ sym (append_assoc before (line ∷ []) (all_lines after)),
-      rw push (IsLog-push before frames line frame so_far.2 (frame_of_takes line frame (sym some))),
-    )
-
--- the next line spells no frame
-pub first_fault : (bytes rest line after : List ℕ) (frames : List Frame) → ReadSoFar bytes rest frames → all_lines rest ≡ line ∷ all_lines after →
-    None ≡ frame_of line → IsLogFault (all_lines bytes) (length frames + 1)
-first_fault bytes rest line after frames so_far e none = record {
-  before = so_far.0;
-  line = line;
-  behind = all_lines after;
-  whole = so_far.1 ∙ ap (λ (ls : List (List ℕ)). so_far.0 ++ ls) e;
-  number = ap (λ (n : ℕ). n + 1) (sym (IsLog-length so_far.0 frames so_far.2));
-  frames = frames;
-  lawful = so_far.2;
-  faulty = no_frame line none;
+-- a log of these bytes, of which some were taken
+read_with : (bytes : List ℕ) (log log_now : SourceState) (took : List ℕ) (left : Option (List ℕ)) → log_now.left ≡ left → log.left ≡ Some bytes → log.taken ≡ Some []
+    → TakesBytes log log_now took → IsLogOf bytes log_now
+read_with bytes log log_now took None e l t r =
+    absurd (none-some bytes (sym (ap (λ (o : Option (List ℕ)). prepend_known took o) e) ∙ sym r.left ∙ l))
+read_with bytes log log_now took (Some rest) e l t r = record {
+  took = took;
+  rest = rest;
+  taken = r.taken ∙ ap (λ (o : Option (List ℕ)). append_known o took) t;
+  left = e;
+  joined = same_Some (took ++ rest) bytes (sym (ap (λ (o : Option (List ℕ)). prepend_known took o) e) ∙ sym r.left ∙ l);
 }
 
--- no line is left
-pub all_lawful : (bytes rest : List ℕ) (frames : List Frame) → ReadSoFar bytes rest frames → rest ≡ [] → IsLog (all_lines bytes) frames
-unfolding all_lines
-all_lawful bytes rest frames so_far e =
-    let whole : all_lines bytes ≡ so_far.0 = so_far.1 ∙ rw e (append-nil so_far.0) in
-    rw whole so_far.2
+pub read_of : (bytes : List ℕ) (log log_now : SourceState) → log.left ≡ Some bytes → log.taken ≡ Some [] → HasRead log log_now → IsLogOf bytes log_now
+read_of bytes log log_now l t r = read_with bytes log log_now r.0 log_now.left refl l t r.1
+
+-- a log that was opened and not read
+pub unread_of : (bytes : List ℕ) (log : SourceState) → log.left ≡ Some bytes → log.taken ≡ Some [] → IsLogOf bytes log
+unread_of bytes log l t = record { took = []; rest = bytes; taken = t; left = l; joined = refl }
+
+-- all logs of names, opened of told files and then read
+pub record ReadOf (files : Files) (names : List (List ℕ)) (logs logs_now : List SourceState) : Type 0 where
+  pub bytes : List (List ℕ)
+  pub are_there : AllZip (HasBytes files) names bytes
+  pub left : HaveLeft logs bytes
+  pub are_logs : AllZip IsLogOf bytes logs_now
+  pub are_named : AllZip (IsLogNamed files) names logs_now
+
+pub reads_of : (files : Files) (names : List (List ℕ)) (logs logs_now : List SourceState) → AllZip (IsFresh (Some files)) names logs → AllZip HasRead logs logs_now
+    → ReadOf files names logs logs_now
+reads_of files [] [] [] f r = record { bytes = []; are_there = tt; left = tt; are_logs = tt; are_named = tt }
+reads_of files [] [] (now ∷ nows) f r = absurd r
+reads_of files [] (log ∷ logs) nows f r = absurd f
+reads_of files (name ∷ names) [] nows f r = absurd f
+reads_of files (name ∷ names) (log ∷ logs) [] f r = absurd r
+reads_of files (name ∷ names) (log ∷ logs) (now ∷ nows) f r =
+    let one = opened_of files name log f.0 in
+    let more = reads_of files names logs nows f.1 r.1 in
+    let is_log = read_of one.0 log now one.1.left one.1.taken r.0 in
+    record {
+      bytes = one.0 ∷ more.bytes;
+      are_there = (one.1.is_there, more.are_there);
+      left = (one.1.left, more.left);
+      are_logs = (is_log, more.are_logs);
+      are_named = ((one.0, one.1.is_there, is_log), more.are_named);
+    }
+
+-- logs of names, opened and not read
+pub opened_named : (files : Files) (names : List (List ℕ)) (logs : List SourceState) → AllZip (IsFresh (Some files)) names logs → AllZip (IsLogNamed files) names logs
+opened_named files [] [] f = tt
+opened_named files [] (log ∷ logs) f = absurd f
+opened_named files (name ∷ names) [] f = absurd f
+opened_named files (name ∷ names) (log ∷ logs) f =
+    let one = opened_of files name log f.0 in
+    ((one.0, one.1.is_there, unread_of one.0 log one.1.left one.1.taken), opened_named files names logs f.1)
+
+-- logs that were opened stand as they were opened
+unread_each : (files : Option Files) (names : List (List ℕ)) (logs : List SourceState) → AllZip (IsFresh files) names logs → AllByRecursion IsUnread logs
+unread_each files [] [] f = tt
+unread_each files [] (log ∷ logs) f = absurd f
+unread_each files (name ∷ names) [] f = absurd f
+unread_each files (name ∷ names) (log ∷ logs) f =
+    (record { none_taken = f.0.none_taken; no_faults = f.0.no_faults; not_ended = f.0.not_ended }, unread_each files names logs f.1)
+
+-- the one behind the first, and those behind it
+pub rest_each : {X : Type 0} (P : X → Type 0) (xs : List X) (x : X) (ys : List X) → AllByRecursion P (xs ++ x ∷ ys) → P x × AllByRecursion P ys
+rest_each P [] x ys h = h
+rest_each P (z ∷ xs) x ys h = rest_each P xs x ys h.1
+
+-- the log at which a reader stopped and those behind it were opened and not read
+pub unread_from : (files : Option Files) (names : List (List ℕ)) (logs heard : List SourceState) (log : SourceState) (behind : List SourceState) → AllZip (IsFresh files) names logs
+    → logs ≡ heard ++ log ∷ behind → IsUnread log × All IsUnread behind
+unread_from files names logs heard log behind f e =
+    let each = rest_each IsUnread heard log behind (subst (λ (ls : List SourceState). AllByRecursion IsUnread ls) e (unread_each files names logs f)) in
+    (each.0, All-from_recursion IsUnread behind each.1)
+
+-- no log that was opened has ended, by what each tells
+ended_each : {L : Type 0} (told : L → SourceState) (files : Option Files) (names : List (List ℕ)) (logs : List L) → AllZip (IsFresh files) names (map told logs)
+    → AllByRecursion (λ log. (told log).ended ≡ false) logs
+ended_each told files [] [] f = tt
+ended_each told files [] (log ∷ logs) f = absurd f
+ended_each told files (name ∷ names) [] f = absurd f
+ended_each told files (name ∷ names) (log ∷ logs) f = (f.0.not_ended, ended_each told files names logs f.1)
+
+pub none_ended : {L : Type 0} (told : L → SourceState) (files : Option Files) (names : List (List ℕ)) (logs : List L) → AllZip (IsFresh files) names (map told logs)
+    → All (λ log. (told log).ended ≡ false) logs
+none_ended told files names logs f = All-from_recursion (λ log. (told log).ended ≡ false) logs (ended_each told files names logs f)
+
+pub all_unread : (files : Option Files) (names : List (List ℕ)) (logs : List SourceState) → AllZip (IsFresh files) names logs → All IsUnread logs
+all_unread files names logs f = All-from_recursion IsUnread logs (unread_each files names logs f)
+
+-- logs that were read to their ends
+heard_each : (logs logs_now : List SourceState) → AllZip IsReadToEnd logs logs_now → AllByRecursion IsHeard logs_now
+heard_each [] [] r = tt
+heard_each [] (now ∷ nows) r = absurd r
+heard_each (log ∷ logs) [] r = absurd r
+heard_each (log ∷ logs) (now ∷ nows) r = (record { ended = r.0.ended; none_left = r.0.none_left }, heard_each logs nows r.1)
+
+pub all_heard : (logs logs_now : List SourceState) → AllZip IsReadToEnd logs logs_now → All IsHeard logs_now
+all_heard logs nows r = All-from_recursion IsHeard nows (heard_each logs nows r)
+
+-- lists that go in pairs are as long
+pub zip_length : {A B : Type 0} (R : A → B → Type 0) (xs : List A) (ys : List B) → AllZip R xs ys → length ys ≡ length xs
+zip_length R [] [] h = refl
+zip_length R [] (y ∷ ys) h = absurd h
+zip_length R (x ∷ xs) [] h = absurd h
+zip_length R (x ∷ xs) (y ∷ ys) h = ap suc (zip_length R xs ys h.1)
+
+-- what the logs before one have left, and what that one has
+pub left_before : (heard : List SourceState) (log : SourceState) (behind : List SourceState) (bytes : List (List ℕ)) → HaveLeft (heard ++ log ∷ behind) bytes
+    → HaveLeft heard (take (length heard) bytes) × ((left : List ℕ) × (log.left ≡ Some left))
+left_before [] log behind [] h = absurd h
+left_before [] log behind (b ∷ bs) h = (tt, (b, h.0))
+left_before (x ∷ heard) log behind [] h = absurd h
+left_before (x ∷ heard) log behind (b ∷ bs) h = let more = left_before heard log behind bs h.1 in ((h.0, more.0), more.1)

@@ -1,159 +1,93 @@
--- From the end of a bus to the end of the tool.
-use Rattle.std.proofs.Common.{◌≡◌, ◌∙◌, ℕ, ◌<◌, ◌≤◌, List, [], Option, Some, None, IfSome, IsSome, refl, sym, subst, inl, inr, ◌⊎◌, arith, length, is_some, cond}
-use Rattle.std.specs.Io.KnownBytes.{append_known}
-use Rattle.byte_forms.specs.Lines.{all_lines}
-use Rattle.port_io.specs.Causes.{Rose, raised}
-use Rattle.port_io.specs.Library.{named, strays_after}
-use Rattle.bench_model.specs.declared.database.Database.{Database}
+-- A run of the tool: its report may lack memory, its line names buses as the bench file does, and its status agrees with
+-- whatever the files decide.
+use Rattle.std.proofs.Common.{◌≡◌, ℕ, List, Option, Some, None, refl, sym, subst, inl, inr}
+use Rattle.std.specs.Option.{IfSome}
+use Rattle.bench_file.specs.declared.plan.Plan.{Plan}
+use Rattle.std.specs.Prelude.{Ok}
+use Rattle.bench_inputs.specs.Asking.{Files, LibraryState}
+use Rattle.bench_inputs.specs.Reading.{ReadsPlan}
+use Rattle.bench_server.proofs.PhaseLaws.{plan_asked, plan_read, ends_since}
+use Rattle.bench_inputs.specs.BenchFiles.{HasPlan}
+use Rattle.bench_loader.specs.declared.fault.DatabaseFault.{DatabaseFault}
+use Rattle.bench_loader.specs.Verdict.{Run, Verdict, faulty, refused, decodes, IsVerdict}
 use Rattle.bench_server.specs.declared.status.Status.{Status}
 use Rattle.bench_server.specs.declared.status.Status.TheVariants as status
-use Rattle.bench_server.specs.BenchFile.{BusFiles, IsBench, IsBenchFault}
-use Rattle.bench_server.specs.Tool.{Files, file_limit, HasBench, HasDatabase, HasText, IsToolText, IsFileRefused, IsRefused}
-use Rattle.bench_server.specs.Writing.{AppendsPrefix}
-use Rattle.bench_server.specs.Ends.{CountChange, FailsToRead, EndsBus, stands}
-use Rattle.bench_server.specs.BusEnds.{AreLogsOf, ReadsDatabase, HasFilesInTurn, HasBusFiles}
-use Rattle.bench_server.specs.FaultLine.{fault_line, Reports}
-use Rattle.bench_server.specs.ToolEnds.{EndsTool, NamesBus, ReportsTool, AreToolLogs, HasToolFiles}
+use Rattle.bench_server.specs.Outcomes.{Seen, WroteNothing, Decodes, Caused, Shows, EndsDecode}
+use Rattle.bench_server.specs.Reporting.{Stays}
+use Rattle.bench_server.specs.Tool.{EndsTool, Decided, Agrees, AgreesWithFiles, NothingFailed, IsWhole}
+use Rattle.tool_words.specs.Commands.{ToolCommand}
+use Rattle.tool_words.specs.Commands as commands
+use Rattle.bench_server.proofs.OptionLaws.{if_some, of_some}
 
--- a count that rose since a later moment rose since an earlier one
-rose_since : (a b c : ℕ) → a ≤ b → Rose b c → Rose a c
-rose_since a b c h r = omega (arith, r)
+-- a refused database whose line lacks memory
+nothing_written : (s : Seen) (bus : Option ℕ) (fault : DatabaseFault) → Caused s (status.Refused bus fault) → WroteNothing s
+nothing_written s None fault c = absurd c
+nothing_written s (Some bus) fault c = c.0
 
-long_bench : (files : Option Files) (bench : List ℕ) (n line : ℕ) → n ≡ 0 → line ≡ 0 →
-    IfSome files (λ fs. (bytes : List ℕ) × (named fs bench ≡ Some bytes) × (file_limit < length bytes)) → IfSome files (λ fs. IsRefused fs bench n line)
-long_bench None bench n line e l h = tt
-long_bench (Some fs) bench n line e l h = inl (e, record { bytes = h.0; file = h.1; refused = inl (h.2, l) })
+lacking : (name : List ℕ) (s : Seen) (bus : Option ℕ) (fault : DatabaseFault) → EndsDecode name s (status.Refused bus fault) → EndsDecode name s status.Memory
+lacking name s bus fault h = record {
+  caused = tt;
+  shows = if_some s.library.files (λ files. Shows files name s status.Memory) (λ files e. inl (nothing_written s bus fault h.caused));
+  logs = h.logs;
+  strays = h.strays;
+}
 
--- a file of number 0 that was not read ends the tool
-pub fails_tool : (files : Option Files) (bench : List ℕ) (o o' m m' f g : ℕ) (before : Option (List ℕ)) (failed : Type 0) (s : Status) →
-    FailsToRead files bench 0 (record { before = o; now = o' }) (record { before = m; now = m' }) s →
-    EndsTool (stands files o o' m m' f g before before) (Some bench) failed s
-fails_tool files bench o o' m m' f g before failed (status.NotBuilt n line) h = (long_bench files bench n line h.0 h.1 h.2, refl)
-fails_tool files bench o o' m m' f g before failed status.OpenFault h = (h, refl)
-fails_tool files bench o o' m m' f g before failed (status.ReadFault None) h = (h, refl)
-fails_tool files bench o o' m m' f g before failed (status.ReadFault (Some n)) h = absurd h
-fails_tool files bench o o' m m' f g before failed status.Memory h = inl refl
-fails_tool files bench o o' m m' f g before failed status.Ok h = absurd h
-fails_tool files bench o o' m m' f g before failed status.Usage h = absurd h
-fails_tool files bench o o' m m' f g before failed status.WriteFault h = absurd h
+pub reported : (name : List ℕ) (s : Seen) (was now : Status) → EndsDecode name s was → Stays was now → EndsDecode name s now
+reported name s was now h stays =
+    elim stays [
+      | inl same ↦ subst (λ (end : Status). EndsDecode name s end) (sym same) h
+      | inr lacks ↦ subst (λ (end : Status). EndsDecode name s end) (sym lacks.memory)
+          (lacking name s lacks.bus lacks.fault (subst (λ (end : Status). EndsDecode name s end) lacks.refused h))
+    ]
 
--- the bench file's bytes, where the files are told
-pub has_bench : (files : Option Files) (bench bytes : List ℕ) (bus : BusFiles) → IfSome files (λ fs. named fs bench ≡ Some bytes) → length bytes ≤ file_limit → IsBench (all_lines bytes) bus →
-    IfSome files (λ fs. HasBench fs bench bus)
-has_bench None bench bytes bus h short lines = tt
-has_bench (Some fs) bench bytes bus h short lines = record { bytes = bytes; file = h; spelled = (short, lines) }
+-- the plan was read, its buses were decoded, and the end was reported
+pub plan_decoded : (name : List ℕ) (before : LibraryState) (plan : Plan) (s : Seen) (end was now : Status) → ReadsPlan before name (Ok plan) s.library
+    → (IfSome s.library.files (λ files. HasPlan files name plan) → EndsDecode name s end) → was ≡ end → Stays was now → EndsDecode name (record s { library = before }) now
+plan_decoded name before plan s end was now r h e stays =
+    let seen_before : Seen = record s { library = before } in
+    let ended : EndsDecode name seen_before end = ends_since before s.library name s end refl (plan_asked name before s.library (Ok plan) r) (h (plan_read name before s.library plan r)) in
+    reported name seen_before was now (subst (λ (t : Status). EndsDecode name seen_before t) (sym e) ended) stays
 
--- a faulty line of the bench file is the first refusal
-pub bench_refused : (files : Option Files) (bench bytes : List ℕ) (line : ℕ) → IfSome files (λ fs. named fs bench ≡ Some bytes) → length bytes ≤ file_limit → IsBenchFault (all_lines bytes) line →
-    IfSome files (λ fs. IsRefused fs bench 0 line)
-bench_refused None bench bytes line h short fault = tt
-bench_refused (Some fs) bench bytes line h short fault = inl (refl, record { bytes = bytes; file = h; refused = inr (short, fault) })
+-- whatever verdict the files have, the status agrees
+module _ (files : Files) (name : List ℕ) (s : Seen) (one : (v w : Verdict) → IsVerdict files name v → IsVerdict files name w → v ≡ w) where
+  decided : (Holds : Run → Type 0) → Decodes files name s.logs Holds → (v : Verdict) → IsVerdict files name v → Decided v Holds
+  decided Holds d v i = subst (λ (w : Verdict). Decided w Holds) (one (decodes d.run) v d.is_run i) d.holds
 
-tool_text : (fs : Files) (bench : List ℕ) (bus : BusFiles) (text : List ℕ) → HasBench fs bench bus → HasText fs bus text → IsToolText fs bench text
-tool_text fs bench bus text b t = record { bus = bus; has_bench = b; has_text = t }
+  pub agrees : (end : Status) → Shows files name s end → (v : Verdict) → IsVerdict files name v → Agrees v s end
+  agrees status.Ok h v i = decided _ h v i
+  agrees status.Usage h v i = h
+  agrees (status.BenchFile line) h v i = one v (faulty line) i h
+  agrees (status.Refused None fault) h v i = h
+  agrees (status.Refused (Some bus) fault) h v i = one v (refused bus fault) i h
+  agrees status.OpenFault h v i = tt
+  agrees (status.ReadFault None) h v i = tt
+  agrees (status.ReadFault (Some bus)) h v i = decided _ h v i
+  agrees status.WriteFault h v i = decided _ h v i
+  agrees (status.TooLong bus) h v i = decided _ h v i
+  agrees status.Memory h v i = tt
 
--- a text of the bus is one of the tool
-lift_text : (files : Option Files) (bench : List ℕ) (bus : BusFiles) (P : List ℕ → Type 0) → IfSome files (λ fs. HasBench fs bench bus) →
-    IfSome files (λ fs. (text : List ℕ) × HasText fs bus text × P text) → IfSome files (λ fs. (text : List ℕ) × IsToolText fs bench text × P text)
-lift_text None bench bus P b h = tt
-lift_text (Some fs) bench bus P b h = (h.0, tool_text fs bench bus h.0 b h.1, h.2)
+whole_by : (s : Seen) (end : Status) (run : Run) → Caused s end → Agrees (decodes run) s end → NothingFailed s → IsWhole end
+whole_by s status.Ok run c a n = inl refl
+whole_by s status.Usage run c a n = absurd c
+whole_by s (status.BenchFile line) run c a n = cc
+whole_by s (status.Refused None fault) run c a n = absurd c
+whole_by s (status.Refused (Some bus) fault) run c a n = cc
+whole_by s status.OpenFault run c a n = absurd (n.opens c.0)
+whole_by s (status.ReadFault None) run c a n = absurd (n.reads c.0)
+whole_by s (status.ReadFault (Some bus)) run c a n = absurd (n.logs bus c)
+whole_by s status.WriteFault run c a n = absurd (n.writes c)
+whole_by s (status.TooLong bus) run c a n = absurd (n.short bus c)
+whole_by s status.Memory run c a n = inr refl
 
-lift_refused : (files : Option Files) (bench : List ℕ) (bus : BusFiles) (file line : ℕ) → IfSome files (λ fs. HasBench fs bench bus) →
-    IfSome files (λ fs. IsFileRefused fs bus file line) → IfSome files (λ fs. IsRefused fs bench file line)
-lift_refused None bench bus file line b h = tt
-lift_refused (Some fs) bench bus file line b h = inr (record { bus = bus; has_bench = b; refused = h })
+-- where nothing failed, the run is whole or memory ran out
+pub whole : (bench : List ℕ) (s : Seen) (end : Status) (run : Run) → EndsDecode bench s end → Agrees (decodes run) s end → NothingFailed s → IsWhole end
+whole bench s end run h a n = whole_by s end run h.caused a n
 
-lift_part : (files : Option Files) (bench : List ℕ) (bus : BusFiles) (before now : Option (List ℕ)) → IfSome files (λ fs. HasBench fs bench bus) →
-    (now ≡ before) ⊎ IfSome files (λ fs. (text : List ℕ) × HasText fs bus text × AppendsPrefix before now text) →
-    (now ≡ before) ⊎ IfSome files (λ fs. (text : List ℕ) × IsToolText fs bench text × AppendsPrefix before now text)
-lift_part files bench bus before now b (inl none) = inl none
-lift_part files bench bus before now b (inr h) = inr (lift_text files bench bus (λ t. AppendsPrefix before now t) b h)
-
-lift_database : (files : Option Files) (bench : List ℕ) (bus : BusFiles) → IfSome files (λ fs. HasBench fs bench bus) →
-    IfSome files (λ fs. (database : Database) × HasDatabase fs bus database) →
-    IfSome files (λ fs. (b : BusFiles) × (database : Database) × HasBench fs bench b × HasDatabase fs b database)
-lift_database None bench bus b h = tt
-lift_database (Some fs) bench bus b h = (bus, h.0, b, h.1)
-
-ends_by : (files : Option Files) (bench : List ℕ) (bus : BusFiles) (o o1 o2 m m1 m2 f g : ℕ) (before now : Option (List ℕ)) (failed : Type 0) (s : Status) →
-    o ≤ o1 → m ≤ m1 → IfSome files (λ fs. HasBench fs bench bus) → EndsBus (stands files o1 o2 m1 m2 f g before now) bus failed s →
-    EndsTool (stands files o o2 m m2 f g before now) (Some bench) failed s
-ends_by files bench bus o o1 o2 m m1 m2 f g before now failed status.Ok lo lm b h = lift_text files bench bus (λ t. now ≡ append_known before t) b h
-ends_by files bench bus o o1 o2 m m1 m2 f g before now failed status.Usage lo lm b h = absurd h
-ends_by files bench bus o o1 o2 m m1 m2 f g before now failed status.OpenFault lo lm b h = (rose_since o o1 o2 lo h.0, h.1)
-ends_by files bench bus o o1 o2 m m1 m2 f g before now failed (status.ReadFault None) lo lm b h = (rose_since m m1 m2 lm h.0, h.1)
-ends_by files bench bus o o1 o2 m m1 m2 f g before now failed (status.ReadFault (Some n)) lo lm b h = (h.0, h.1, h.2, lift_database files bench bus b h.3)
-ends_by files bench bus o o1 o2 m m1 m2 f g before now failed status.WriteFault lo lm b h = (h.0, lift_text files bench bus (λ t. AppendsPrefix before now t) b h.1)
-ends_by files bench bus o o1 o2 m m1 m2 f g before now failed status.Memory lo lm b h = lift_part files bench bus before now b h
-ends_by files bench bus o o1 o2 m m1 m2 f g before now failed (status.NotBuilt file line) lo lm b h = (lift_refused files bench bus file line b h.0, h.1)
-
--- the end of the bus is the end of the tool
-pub ends_tool : (files later : Option Files) (bench : List ℕ) (bus : BusFiles) (o o1 o2 m m1 m2 f g : ℕ) (before now : Option (List ℕ)) (failed : Type 0) (s : Status) →
-    later ≡ files → o ≤ o1 → m ≤ m1 → IfSome files (λ fs. HasBench fs bench bus) → EndsBus (stands later o1 o2 m1 m2 f g before now) bus failed s →
-    EndsTool (stands files o o2 m m2 f g before now) (Some bench) failed s
-ends_tool files later bench bus o o1 o2 m m1 m2 f g before now failed s e lo lm b h =
-    let P : Option Files → Type 0 = λ x. EndsBus (stands x o1 o2 m1 m2 f g before now) bus failed s in
-    ends_by files bench bus o o1 o2 m m1 m2 f g before now failed s lo lm b (subst P e h)
-
-named_by : (files : Option Files) (bench : List ℕ) (bus : BusFiles) → IfSome files (λ fs. HasBench fs bench bus) → NamesBus files bench bus.name
-named_by None bench bus b = tt
-named_by (Some fs) bench bus b = (bus, b, refl)
-
--- the line of a status for the bus of the bench file
-pub reports_tool : (files : Option Files) (bench : List ℕ) (bus : BusFiles) (before now : Option (List ℕ)) (f g : ℕ) (s : Status) → IfSome files (λ fs. HasBench fs bench bus) →
-    Reports before now f g (fault_line bus.name s) → ReportsTool files bench before now f g s
-reports_tool files bench bus before now f g (status.ReadFault (Some n)) b h = (bus.name, h, named_by files bench bus b)
-reports_tool files bench bus before now f g (status.ReadFault None) b h = h
-reports_tool files bench bus before now f g status.Ok b h = h
-reports_tool files bench bus before now f g status.Usage b h = h
-reports_tool files bench bus before now f g status.OpenFault b h = h
-reports_tool files bench bus before now f g status.WriteFault b h = h
-reports_tool files bench bus before now f g status.Memory b h = h
-reports_tool files bench bus before now f g (status.NotBuilt n l) b h = h
-
--- the line of a status that a failed reading of file 0 gives
-pub reports_read : (files : Option Files) (bench : List ℕ) (o m : CountChange) (before now : Option (List ℕ)) (f g : ℕ) (s : Status) → FailsToRead files bench 0 o m s →
-    Reports before now f g (fault_line [] s) → ReportsTool files bench before now f g s
-reports_read files bench o m before now f g (status.ReadFault (Some n)) b h = absurd b
-reports_read files bench o m before now f g (status.ReadFault None) b h = h
-reports_read files bench o m before now f g status.Ok b h = h
-reports_read files bench o m before now f g status.Usage b h = h
-reports_read files bench o m before now f g status.OpenFault b h = h
-reports_read files bench o m before now f g status.WriteFault b h = h
-reports_read files bench o m before now f g status.Memory b h = h
-reports_read files bench o m before now f g (status.NotBuilt n l) b h = h
-
--- the logs of the bus are those of the tool
-pub tool_logs : {S : Type 0} (files later : Option Files) (bench : List ℕ) (bus : BusFiles) (left taken : S → Option (List ℕ)) (logs : List S) → later ≡ files →
-    IfSome files (λ fs. HasBench fs bench bus) → AreLogsOf later bus.log left taken logs → AreToolLogs files bench left taken logs
-tool_logs None later bench bus left taken logs e b h = inr tt
-tool_logs {S} (Some fs) later bench bus left taken logs e b h =
-    let P : Option Files → Type 0 = λ x. AreLogsOf x bus.log left taken logs in
-    inr (bus, b, subst P e h)
-
-there : (o : Option (List ℕ)) (strays : ℕ) → IsSome o → cond (is_some o) strays (raised strays) ≡ strays
-there (Some x) strays h = refl
-there None strays h = absurd cc
-
--- a name that is there is not astray
-pub not_astray : (files : Option Files) (bench : List ℕ) (strays : ℕ) → HasToolFiles files bench → strays_after files bench strays ≡ strays
-not_astray None bench strays h = refl
-not_astray (Some fs) bench strays h = there (named fs bench) strays h.0
-
--- the bus's files are there
-pub bus_files : (files later : Option Files) (bench : List ℕ) (bus : BusFiles) → later ≡ files → IfSome files (λ fs. HasBench fs bench bus) → HasToolFiles files bench → HasBusFiles later bus
-bus_files None later bench bus e b h = let P : Option Files → Type 0 = λ x. HasBusFiles x bus in subst P (sym e) tt
-bus_files (Some fs) later bench bus e b h = let P : Option Files → Type 0 = λ x. HasBusFiles x bus in subst P (sym e) (h.1 bus b)
-
-log_there : (fs : Files) (bus : BusFiles) (database : Database) → HasFilesInTurn fs bus → ReadsDatabase fs bus.database database → IsSome (named fs bus.log)
-log_there fs bus database h read = h.1 database (record { bytes = read.0; file = read.1; spelled = read.2 })
-
--- the database was opened and lawful, and then the log was opened: neither is astray
-pub in_turn : (files later : Option Files) (bus : BusFiles) (database : Database) (strays strays1 strays2 : ℕ) → later ≡ files → HasBusFiles files bus →
-    IfSome files (λ fs. ReadsDatabase fs bus.database database) → strays1 ≡ strays_after files bus.database strays → strays2 ≡ strays_after later bus.log strays1 → strays2 ≡ strays
-in_turn None later bus database strays strays1 strays2 e h read first second =
-    let P : Option Files → Type 0 = λ x. strays2 ≡ strays_after x bus.log strays1 in
-    subst P e second ∙ first
-in_turn (Some fs) later bus database strays strays1 strays2 e h read first second =
-    let P : Option Files → Type 0 = λ x. strays2 ≡ strays_after x bus.log strays1 in
-    subst P e second ∙ there (named fs bus.log) strays1 (log_there fs bus database h read) ∙ first ∙ there (named fs bus.database) strays h.0
+-- the same of a run for the words
+pub exact_by : (command : Option ToolCommand) (s : Seen) (end : Status) → ((files : Files) (name : List ℕ) (v w : Verdict) → IsVerdict files name v → IsVerdict files name w → v ≡ w)
+    → EndsTool command s end → AgreesWithFiles command s end
+exact_by None s end one h = tt
+exact_by (Some (commands.Decodes bench)) s end one h =
+    if_some s.library.files (λ files. (v : Verdict) → IsVerdict files bench v → Agrees v s end) (λ files e v i.
+    agrees files bench s (one files bench) end (of_some s.library.files (λ files. Shows files bench s end) files e h.shows) v i)
+exact_by (Some (commands.Checks file)) s end one h = tt

@@ -1,21 +1,12 @@
-pub mod Words
-pub mod BenchFile
-pub mod BenchReading
-pub mod BenchView
-pub mod LogFile
-pub mod LogReading
-pub mod LogView
+-- what the tool writes, and how its runs end
+pub mod ToolText
+pub mod Outcomes
+pub mod CheckOutcomes
 pub mod StatusCode
-pub mod LogResult
-pub mod ItemText
-pub mod Decoded
-pub mod TextView
-pub mod WordView
 pub mod FaultLine
 pub mod Tool
-pub mod Writing
-pub mod Records
-pub mod FrameBody
-pub mod Ends
-pub mod BusEnds
-pub mod ToolEnds
+-- how the code comes to it
+pub mod EndView
+pub mod Loading
+pub mod Reporting
+pub mod Pieces

@@ -1,103 +1,105 @@
--- What the tool writes for `decode`: a function of the bytes of the bench file, the database and the log.
-use Rattle.std.specs.Prelude.{◌≡◌, ◌⊎◌, ℕ, ◌<◌, ◌≤◌, List, [], ◌∷◌, length, Some}
-use Rattle.byte_forms.specs.Lines.{all_lines}
-use Rattle.port_io.specs.Library.{named}
-use Rattle.bench_model.specs.declared.database.Kind.TheVariants as kind
-use Rattle.bench_model.specs.declared.database.Database.{Database}
-use Rattle.bench_model.specs.declared.database.Bench.{Bench}
-use Rattle.plain_dbc.specs.Contract.{SpellsDatabase, IsRefusedAt}
-use Rattle.bench_server.specs.declared.log_file.Frame.{Frame}
-use Rattle.bench_server.specs.BenchFile.{BusFiles, IsBench, IsBenchFault}
-use Rattle.bench_server.specs.LogFile.{IsLog, IsLogFault}
-use Rattle.bench_server.specs.Decoded.{bus_text}
+-- A run of the tool for the words of its command line.
+use Rattle.std.specs.Prelude.{◌≡◌, ◌⊎◌, ℕ, List, [], map, Option, Some, None, IfSome}
+use Rattle.port_io.specs.Causes.{Rose}
+use Rattle.port_io.specs.OtherSide.{SinkState}
+use Rattle.tool_words.specs.Commands.{ToolCommand, Decodes, Checks}
+use Rattle.bench_file.specs.declared.plan.Plan.{Plan}
+use Rattle.bench_file.specs.declared.plan.PlannedBus.{PlannedBus}
+use Rattle.bench_inputs.specs.Asking.{Files}
+use Rattle.bench_inputs.specs.BenchFiles.{HasPlan}
+use Rattle.bench_loader.specs.Verdict.{Verdict, missing, faulty, refused, decodes, IsVerdict, Run}
+use Rattle.bench_server.specs.declared.status.Status.{Status}
+use Rattle.bench_server.specs.declared.status.Status.TheVariants as status
+use Rattle.bench_server.specs.ToolText.{tool_text}
+use Rattle.bench_server.specs.Outcomes.{Seen, Wrote, WrotePrefix, HasFailed, IsTooLong, StopsAt, WroteTo, EndsDecode}
+use Rattle.bench_server.specs.CheckOutcomes.{EndsCheck}
+use Rattle.bench_server.specs.Pieces.{WritesFront}
+use Rattle.bench_server.specs.FaultLine.{fault_line}
 
--- how many bytes the bench file and the log may have
-abbrev pub file_limit : ℕ
-file_limit = 1048576
+-- words of no command: nothing is asked for and nothing is written
+pub record IsUsage (s : Seen) (end : Status) : Type 0 where
+  pub usage : end ≡ status.Usage
+  pub library : s.library_now ≡ s.library
+  pub out : s.out_now ≡ s.out
+  pub no_logs : s.logs ≡ []
 
--- the files of a library: names and bytes
-abbrev pub Files : Type 0
-Files = List (List ℕ × List ℕ)
+-- a run for the command that the words name, or for words of none
+abbrev pub EndsTool : Option ToolCommand → Seen → Status → Type 0
+EndsTool None s end = IsUsage s end
+EndsTool (Some (Decodes bench)) s end = EndsDecode bench s end
+EndsTool (Some (Checks file)) s end = EndsCheck file s end
 
--- the bytes are a bench file of this bus
-abbrev pub SpellsBench : List ℕ → BusFiles → Type 0
-SpellsBench bytes bus = (length bytes ≤ file_limit) × IsBench (all_lines bytes) bus
+-- the files decide that logs are decoded, and this holds of the run
+abbrev pub Decided : Verdict → (Run → Type 0) → Type 0
+Decided missing Holds = ⊥
+Decided (faulty line) Holds = ⊥
+Decided (refused bus fault) Holds = ⊥
+Decided (decodes run) Holds = Holds run
 
--- the bytes are a log of these frames
-abbrev pub SpellsLog : List ℕ → List Frame → Type 0
-SpellsLog bytes frames = (length bytes ≤ file_limit) × IsLog (all_lines bytes) frames
+-- what each status says of the verdict that the files decide
+abbrev pub Agrees : Verdict → Seen → Status → Type 0
+Agrees v s status.Ok = Decided v (λ run. Wrote s (tool_text run))
+Agrees v s status.Usage = ⊥
+Agrees v s (status.BenchFile line) = v ≡ faulty line
+Agrees v s (status.Refused None fault) = ⊥
+Agrees v s (status.Refused (Some bus) fault) = v ≡ refused bus fault
+Agrees v s status.OpenFault = Unit {0}
+Agrees v s (status.ReadFault None) = Unit {0}
+Agrees v s (status.ReadFault (Some bus)) = Decided v (λ run. StopsAt s.logs bus (WroteTo s run bus))
+Agrees v s status.WriteFault = Decided v (λ run. WrotePrefix s (tool_text run))
+Agrees v s (status.TooLong bus) = Decided v (λ run. StopsAt s.logs bus (WroteTo s run bus))
+Agrees v s status.Memory = Unit {0}
 
--- a bench of one CAN bus with this database
-abbrev pub bench_of : List ℕ → Database → Bench
-bench_of name database = record { buses = record { name = name; kind = kind.Can; database = database } ∷ [] }
+-- whatever verdict the files have, the status agrees with it
+abbrev pub AgreesWithFiles : Option ToolCommand → Seen → Status → Type 0
+AgreesWithFiles None s end = Unit {0}
+AgreesWithFiles (Some (Decodes bench)) s end =
+    IfSome s.library.files (λ files. (v : Verdict) → IsVerdict files bench v → Agrees v s end)
+AgreesWithFiles (Some (Checks file)) s end = Unit {0}
 
--- the bench file of this name is there and names this bus
-pub record HasBench (files : Files) (bench : List ℕ) (bus : BusFiles) : Type 0 where
-  pub bytes : List ℕ
-  pub file : named files bench ≡ Some bytes
-  pub spelled : SpellsBench bytes bus
+-- the names of the buses that the bench file of this name plans
+abbrev pub plan_names : List PlannedBus → List (List ℕ)
+plan_names buses = map (λ (bus : PlannedBus). bus.name) buses
 
--- the bus's database is there
-pub record HasDatabase (files : Files) (bus : BusFiles) (database : Database) : Type 0 where
-  pub bytes : List ℕ
-  pub file : named files bus.database ≡ Some bytes
-  pub spelled : SpellsDatabase bytes database
+pub record ArePlanned (files : Files) (bench : List ℕ) (names : List (List ℕ)) : Type 0 where
+  pub plan : Plan
+  pub has_plan : HasPlan files bench plan
+  pub planned : names ≡ plan_names plan.buses
 
--- the bus's log is there
-pub record HasLog (files : Files) (bus : BusFiles) (frames : List Frame) : Type 0 where
-  pub bytes : List ℕ
-  pub file : named files bus.log ≡ Some bytes
-  pub spelled : SpellsLog bytes frames
+-- a status that names a bus names it as the bench file does
+abbrev pub NamesBuses : Files → List ℕ → List (List ℕ) → Status → Type 0
+NamesBuses files bench names (status.Refused (Some bus) fault) = ArePlanned files bench names
+NamesBuses files bench names (status.ReadFault (Some bus)) = ArePlanned files bench names
+NamesBuses files bench names (status.TooLong bus) = ArePlanned files bench names
+NamesBuses files bench names (status.Refused None fault) = Unit {0}
+NamesBuses files bench names (status.ReadFault None) = Unit {0}
+NamesBuses files bench names status.Ok = Unit {0}
+NamesBuses files bench names status.Usage = Unit {0}
+NamesBuses files bench names (status.BenchFile line) = Unit {0}
+NamesBuses files bench names status.OpenFault = Unit {0}
+NamesBuses files bench names status.WriteFault = Unit {0}
+NamesBuses files bench names status.Memory = Unit {0}
 
--- the bus's database and log are there, and the text is theirs: a start where there is a record, the decoded list
--- and an end
-pub record HasText (files : Files) (bus : BusFiles) (text : List ℕ) : Type 0 where
-  pub database : Database
-  pub frames : List Frame
-  pub has_database : HasDatabase files bus database
-  pub has_log : HasLog files bus frames
-  pub text_is : text ≡ bus_text (bench_of bus.name database) 0 bus.name frames
+-- the line of a status was appended to the error output, or a prefix of it where that sink's count rose
+pub record Reports (named : List (List ℕ) → Type 0) (err err_now : SinkState) (end : Status) : Type 0 where
+  pub names : List (List ℕ)
+  pub are_names : named names
+  pub line : WritesFront err (fault_line names end) err_now
 
--- the text of `decode` of this bench file: that of the bus that it names
-pub record IsToolText (files : Files) (bench text : List ℕ) : Type 0 where
-  pub bus : BusFiles
-  pub has_bench : HasBench files bench bus
-  pub has_text : HasText files bus text
+abbrev pub ReportsTool : Option Files → Option ToolCommand → SinkState → SinkState → Status → Type 0
+ReportsTool files (Some (Decodes bench)) err err_now end =
+    Reports (λ names. IfSome files (λ fs. NamesBuses fs bench names end)) err err_now end
+ReportsTool files (Some (Checks file)) err err_now end = Reports (λ names. names ≡ []) err err_now end
+ReportsTool files None err err_now end = Reports (λ names. names ≡ []) err err_now end
 
--- a file is refused at line 0 for its length, and else at its first faulty line
-abbrev pub RefusedAt : List ℕ → ℕ → (ℕ → Type 0) → Type 0
-RefusedAt bytes line IsFault = ((file_limit < length bytes) × (line ≡ 0)) ⊎ ((length bytes ≤ file_limit) × IsFault line)
+-- no count of faults rose, no read of a log failed, and no log has 2^40 bytes taken of it without having ended
+pub record NothingFailed (s : Seen) : Type 0 where
+  pub opens : Rose s.library.open_faults s.library_now.open_faults → ⊥
+  pub reads : Rose s.library.more_faults s.library_now.more_faults → ⊥
+  pub writes : Rose s.out.write_faults s.out_now.write_faults → ⊥
+  pub logs : (bus : ℕ) → StopsAt s.logs bus HasFailed → ⊥
+  pub short : (bus : ℕ) → StopsAt s.logs bus IsTooLong → ⊥
 
--- the bench file is refused at this line
-pub record IsBenchRefused (files : Files) (bench : List ℕ) (line : ℕ) : Type 0 where
-  pub bytes : List ℕ
-  pub file : named files bench ≡ Some bytes
-  pub refused : RefusedAt bytes line (IsBenchFault (all_lines bytes))
-
--- the bus's database is refused at this line
-pub record IsDatabaseRefused (files : Files) (bus : BusFiles) (line : ℕ) : Type 0 where
-  pub bytes : List ℕ
-  pub file : named files bus.database ≡ Some bytes
-  pub refused : IsRefusedAt bytes line
-
--- its database is lawful, and its log is refused at this line
-pub record IsLogRefused (files : Files) (bus : BusFiles) (line : ℕ) : Type 0 where
-  pub database : Database
-  pub has_database : HasDatabase files bus database
-  pub bytes : List ℕ
-  pub file : named files bus.log ≡ Some bytes
-  pub refused : RefusedAt bytes line (IsLogFault (all_lines bytes))
-
--- a file of the bus is refused: its database (1) or its log (2)
-abbrev pub IsFileRefused : Files → BusFiles → ℕ → ℕ → Type 0
-IsFileRefused files bus file line = ((file ≡ 1) × IsDatabaseRefused files bus line) ⊎ ((file ≡ 2) × IsLogRefused files bus line)
-
--- the bench file is lawful, and a file of the bus that it names is refused
-pub record IsBusRefused (files : Files) (bench : List ℕ) (file line : ℕ) : Type 0 where
-  pub bus : BusFiles
-  pub has_bench : HasBench files bench bus
-  pub refused : IsFileRefused files bus file line
-
--- the first file that is refused, in the order bench file (0), database (1), log (2), and the line of it
-abbrev pub IsRefused : Files → List ℕ → ℕ → ℕ → Type 0
-IsRefused files bench file line = ((file ≡ 0) × IsBenchRefused files bench line) ⊎ IsBusRefused files bench file line
+-- the run is whole, or memory ran out
+abbrev pub IsWhole : Status → Type 0
+IsWhole end = (end ≡ status.Ok) ⊎ (end ≡ status.Memory)

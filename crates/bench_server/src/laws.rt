@@ -1,15 +1,25 @@
-//! A law about the definitions that the contract of `run_tool` cites. It has no code.
+//! Laws of the definitions that the contract of `run_tool` cites. They have no code.
 
-ghost use Rattle.std.specs.Prelude.{◌≡◌, ◌⊎◌, ℕ, List, Some};
-ghost use Rattle.bench_server.specs.Tool.{Files, IsToolText, IsRefused};
-ghost use Rattle.bench_server.specs.ToolEnds.{HasToolFiles};
+ghost use Rattle.std.specs.Prelude.{◌≡◌, ℕ, List};
+ghost use Rattle.bench_inputs.specs.Asking.{Files};
+ghost use Rattle.bench_loader.specs.Verdict.{Run, Verdict, decodes, IsVerdict};
+ghost use Rattle.bench_server.specs.declared.status.Status.{Status};
+ghost use Rattle.bench_server.specs.Outcomes.{Seen, EndsDecode};
+ghost use Rattle.bench_server.specs.Tool.{Agrees, NothingFailed, IsWhole};
 
-/// A bench file whose files are there, each as its turn comes, has one text or is refused at one line of one file,
-/// and not both.
+use bench_loader::one_verdict;
+
+/// The files of a bench decide between one text and one refusal: they have one verdict.
 pub fn one_end()
-    ensures some { (files : Files) (bench : List ℕ) → HasToolFiles (Some files) bench →
-        ((text : List ℕ) × IsToolText files bench text) ⊎ ((file line : ℕ) × IsRefused files bench file line) }
-    ensures text { (files : Files) (bench s t : List ℕ) → IsToolText files bench s → IsToolText files bench t → s ≡ t }
-    ensures refusal { (files : Files) (bench : List ℕ) (e f m n : ℕ) → IsRefused files bench e m → IsRefused files bench f n → (e ≡ f) × (m ≡ n) }
-    ensures apart { (files : Files) (bench text : List ℕ) (file line : ℕ) → IsToolText files bench text → IsRefused files bench file line → ⊥ }
+    ensures some { (files : Files) (bench : List ℕ) → (v : Verdict) × IsVerdict files bench v }
+    ensures one { (files : Files) (bench : List ℕ) (v w : Verdict) → IsVerdict files bench v → IsVerdict files bench w → v ≡ w }
+{
+    one_verdict();
+}
+
+/// Where the files decide that logs are decoded and nothing of the outside failed, the run is whole, unless memory ran
+/// out.
+pub fn a_run_without_faults_is_whole()
+    ensures { (bench : List ℕ) (s : Seen) (end : Status) (run : Run) → EndsDecode bench s end → Agrees (decodes run) s end
+        → NothingFailed s → IsWhole end }
 {}

@@ -1,29 +1,25 @@
-//! The server's top calls, of which this version has one: `run_tool`, which does what the program does for
-//! the words of its command line.
+//! The server's top calls, of which this version has one: `run_tool`, which does what the program does for the words
+//! of its command line.
 //!
-//! It stands on `port_io` for the outside, on `byte_forms` and `plain_dbc` for the files and on
-//! `bench_model`, with the lists of `multiplex_tree`, for the meaning of frames; the program `sigserve` hands it
-//! the real files and streams.
-//! Reading the bench file and the log, and the text of the items, are private parts of it.
+//! `tool_words` says which command they are; `bench_inputs` opens and reads the files of a bench, `bench_loader` judges
+//! its databases, and `bench_text` prints its buses, each from its log. Here the phases follow one another, and each
+//! way in which they end is a `Status` with a line on the error output. The program `sigserve` hands it the real files
+//! and streams.
 //!
-//! Main theorem: where the library tells its files, `run_tool` has on success appended to its output exactly the
-//! tool's text, a function of the bytes of the bench file, the database and the log alone, and every other status
-//! but want of memory has its cause.
+//! Main theorem: where the library tells its files, `run_tool` has on Ok appended to its output exactly the tool's
+//! text, a function of the bytes of the files alone, and every other status but out of memory has its cause.
 #![tactic(auto)]
 
-mod bench_file;
-mod bus;
-mod decode;
-mod files;
-mod item_text;
+mod checking;
+mod decoding;
 mod laws;
-mod log_file;
+mod pieces;
+mod refused;
 mod report;
 mod status;
 mod tool;
-mod words;
 
-pub use laws::one_end;
+pub use laws::{a_run_without_faults_is_whole, one_end};
 pub use status::Status;
 pub use tool::{Ran, run_tool};
 

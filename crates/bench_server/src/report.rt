@@ -1,46 +1,122 @@
 //! The line that a status appends to the error output.
 
-ghost use Rattle.std.specs.Prelude.{◌≡◌};
-ghost use Rattle.bench_server.specs.TextView.{joined};
-ghost use Rattle.bench_server.specs.FaultLine.{fault_line, Reports};
+ghost use Rattle.std.specs.Prelude.{◌≡◌, ◌++◌, [], flat_map, slice_index_or, IfOk, OnOk};
+ghost use Rattle.bench_loader.specs.FaultText.{behind_blank};
+ghost use Rattle.bus_text.specs.Fronts.{sink_told};
+ghost use Rattle.bench_server.specs.Pieces.{WritesFront, joined};
+ghost use Rattle.bench_server.specs.FaultLine.{bus_words, fault_line, HasPlainLine};
+ghost use Rattle.bench_server.specs.Reporting.{Stays};
+ghost use Rattle.bench_server.specs.Tool.{plan_names};
 
 use crate::Status;
+use crate::pieces::write_pieces;
+use bench_file::PlannedBus;
+use bench_loader::DatabaseFault;
 use itoa::Buffer;
-use port_io::{Sink, write_piece};
+use port_io::Sink;
+use std::alloc::{AllocError, Global};
 
-/// The line of a usage that is not taken: the words of every command of the finished program.
+/// The line of words that are those of no command: the words of every command of the finished program.
 const USAGE: &[u8] =
     b"usage: sigserve decode BENCH | check FILE | mill N | serve BENCH DESK PLACE..\n";
 
-/// Appends pieces, as far as the sink takes them.
-fn write_pieces<E: Sink>(err: &mut E, pieces: &[&[u8]])
-    ensures { Reports (E.written err.old) (E.written err.new) (E.write_faults err.old) (E.write_faults err.new) (joined pieces.now) }
+/// The name of the bus at this place.
+fn name_of(buses: &[PlannedBus], bus: u32) -> &[u8]
+    ensures { result.now ≡ slice_index_or (plan_names buses.now) bus [] }
 {
-    for piece in pieces {
-        let Ok(()) = write_piece(err, piece) else {
-            return;
-        };
+    match buses.get(bus as usize) {
+        Some(bus) => bus.name.bytes(),
+        None => b"",
     }
 }
 
-/// Appends the line of a status, for the bus of this name, as far as the sink takes it.
-pub(crate) fn report<E: Sink>(err: &mut E, name: &[u8], status: &Status)
-    ensures { Reports (E.written err.old) (E.written err.new) (E.write_faults err.old) (E.write_faults err.new) (fault_line name.now status.now) }
+/// Appends the name of a bus behind a blank, where there is a bus.
+fn append_bus(line: &mut Vec<u8>, buses: &[PlannedBus], bus: Option<u32>) -> Result<(), AllocError>
+    ensures { OnOk result (line.new.items
+        ≡ line.old.items ++ flat_map behind_blank (bus_words (plan_names buses.now) bus)) }
+{
+    if let Some(bus) = bus {
+        line.push(b' ')?;
+        line.extend_from_slice(name_of(buses, bus))?;
+    }
+    Ok(())
+}
+
+/// The line of a database that is refused, that of the bus at this place or the only one.
+fn refused_line(
+    alloc: Global,
+    buses: &[PlannedBus],
+    bus: Option<u32>,
+    fault: &DatabaseFault,
+) -> Result<Vec<u8>, AllocError>
+    ensures { IfOk result (λ line. line.items ≡ fault_line (plan_names buses.now) (Status.Refused bus fault.now)) }
+{
+    let mut line = Vec::from_slice(alloc, b"refused")?;
+    append_bus(&mut line, buses, bus)?;
+    line.push(b' ')?;
+    fault.text(&mut line)?;
+    line.push(b'\n')?;
+    Ok(line)
+}
+
+/// Appends pieces, as far as the sink takes them.
+fn append_pieces<E: Sink>(err: &mut E, pieces: &[&[u8]])
+    ensures { WritesFront (sink_told (E.written err.old) (E.write_faults err.old)) (joined pieces.now)
+        (sink_told (E.written err.new) (E.write_faults err.new)) }
+{
+    match write_pieces(err, pieces) {
+        Ok(()) | Err(_) => {}
+    }
+}
+
+/// Appends a line that takes no memory: that of any status but a refused database.
+fn append_line<E: Sink>(err: &mut E, buses: &[PlannedBus], status: &Status)
+    requires plain { HasPlainLine status.now }
+    ensures { WritesFront (sink_told (E.written err.old) (E.write_faults err.old))
+        (fault_line (plan_names buses.now) status.now) (sink_told (E.written err.new) (E.write_faults err.new)) }
 {
     match status {
-        Status::Ok => write_pieces(err, &[]),
-        Status::Usage => write_pieces(err, &[USAGE]),
-        Status::OpenFault => write_pieces(err, &[b"open\n"]),
-        Status::ReadFault { bus: None } => write_pieces(err, &[b"read\n"]),
-        Status::ReadFault { bus: Some(_) } => write_pieces(err, &[b"read ", name, b"\n"]),
-        Status::WriteFault => write_pieces(err, &[b"write\n"]),
-        Status::Memory => write_pieces(err, &[b"memory\n"]),
-        Status::NotBuilt { file, line } => {
-            let mut file_digits = Buffer::new();
-            let mut line_digits = Buffer::new();
-            let file = file_digits.format(*file).as_bytes();
-            let line = line_digits.format(*line).as_bytes();
-            write_pieces(err, &[b"notbuilt ", file, b" ", line, b"\n"]);
+        Status::Ok | Status::Refused { .. } => append_pieces(err, &[]),
+        Status::Usage => append_pieces(err, &[USAGE]),
+        Status::BenchFile { line } => {
+            let mut digits = Buffer::new();
+            append_pieces(err, &[b"bench ", digits.format(*line).as_bytes(), b"\n"]);
+        }
+        Status::OpenFault => append_pieces(err, &[b"open\n"]),
+        Status::ReadFault { bus: None } => append_pieces(err, &[b"read\n"]),
+        Status::ReadFault { bus: Some(bus) } => {
+            append_pieces(err, &[b"read ", name_of(buses, *bus), b"\n"]);
+        }
+        Status::WriteFault => append_pieces(err, &[b"write\n"]),
+        Status::TooLong { bus } => append_pieces(err, &[b"long ", name_of(buses, *bus), b"\n"]),
+        Status::Memory => append_pieces(err, &[b"memory\n"]),
+    }
+}
+
+/// Appends the line of a status, for these buses, as far as the sink takes it, and answers the status. Where there is
+/// no memory for the line of a refused database, the status is that.
+pub(crate) fn report<E: Sink>(
+    alloc: Global,
+    err: &mut E,
+    buses: &[PlannedBus],
+    status: Status,
+) -> Status
+    ensures status { Stays status result }
+    ensures line { WritesFront (sink_told (E.written err.old) (E.write_faults err.old))
+        (fault_line (plan_names buses.now) result) (sink_told (E.written err.new) (E.write_faults err.new)) }
+{
+    let Status::Refused { bus, fault } = &status else {
+        append_line(err, buses, &status);
+        return status;
+    };
+    match refused_line(alloc, buses, *bus, fault) {
+        Ok(line) => {
+            append_pieces(err, &[&line]);
+            status
+        }
+        Err(_) => {
+            append_line(err, buses, &Status::Memory);
+            Status::Memory
         }
     }
 }

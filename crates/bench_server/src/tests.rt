@@ -6,22 +6,34 @@ use std::alloc::{AllocError, Global};
 use std::process::Abort;
 use std::test::*;
 
+mod buses;
+mod checks;
 mod failures;
-mod forms;
+mod frames;
+mod refusals;
 
-/// The bytes of the three files of a run, and how they and the sinks behave.
+/// A file by its name.
+type File<'a> = (&'a str, &'a [u8]);
+
+/// The words and the files of a run, and what it leaves.
 #[derive(Clone, Copy)]
 struct Case<'a> {
     words: &'a [&'a str],
-    bench: &'a [u8],
-    database: &'a [u8],
-    log: &'a [u8],
+    files: &'a [File<'a>],
+    code: u8,
+    out: &'a [u8],
+    err: &'a [u8],
+}
+
+/// How the outside of a run behaves.
+#[derive(Clone, Copy)]
+struct Outside<'a> {
     /// The most bytes that a call moves.
     step: usize,
     /// The calls of the library that fail, counted from 0.
     library: &'a [u64],
-    /// The reads of the log that fail.
-    reads: &'a [u64],
+    /// The reads that fail of the logs whose names are these.
+    reads: &'a [(&'a str, u64)],
     /// The writes of the output that fail.
     writes: &'a [u64],
     /// How many bytes the output takes.
@@ -40,69 +52,74 @@ struct Left {
     logs: usize,
 }
 
-const BENCH: &[u8] = b"bus A can a.log a.dbc\n";
+/// At most 64 bytes a call, with no failure.
+const QUIET: Outside<'static> = Outside {
+    step: 64,
+    library: &[],
+    reads: &[],
+    writes: &[],
+    room: 4096,
+    lines: &[],
+};
 
-const DATABASE: &[u8] =
-    b"VERSION \"\"\nBO_ 256 Engine: 8 ECU\nSG_ Speed : 0|16@1+ (2,0) [0|131070] \"rpm\" Vector__XXX\n";
-
-const LOG: &[u8] = b"(0000000001.000000) can0 100#A00F000000000000\n";
-
-const TEXT: &[u8] = b"start A 0\nm A 0 0 1000000 Engine\ns Speed 4000 8000 \"rpm\"\nend A 1\n";
-
-/// The classic frame, at most 64 bytes a call, with no failure.
-fn classic() -> Case<'static> {
-    Case {
-        words: &["decode", "bench.txt"],
-        bench: BENCH,
-        database: DATABASE,
-        log: LOG,
-        step: 64,
-        library: &[],
-        reads: &[],
-        writes: &[],
-        room: 4096,
-        lines: &[],
+/// The failing reads of the file of this name.
+fn fails_of(alloc: Global, reads: &[(&str, u64)], name: &str) -> Result<Vec<u64>, AllocError> {
+    let mut fails = Vec::new(alloc);
+    for (log, read) in reads {
+        if *log == name {
+            fails.push(*read)?;
+        }
     }
+    Ok(fails)
 }
 
-fn file(
+fn files_of(
     alloc: Global,
-    name: &str,
-    content: &[u8],
-    step: usize,
-    fails: &[u64],
-) -> Result<MemFile, AllocError>
-    requires { 1 ≤ step }
+    files: &[File<'_>],
+    outside: &Outside<'_>,
+) -> Result<Vec<MemFile>, AllocError>
+    requires { 1 ≤ outside.now.step }
 {
-    Ok(MemFile {
-        name: String::from_str(alloc, name)?,
-        content: Vec::from_slice(alloc, content)?,
-        step,
-        fails: Vec::from_slice(alloc, fails)?,
-    })
+    let mut made = Vec::new(alloc);
+    for (name, content) in files {
+        made.push(MemFile {
+            name: String::from_str(alloc, name)?,
+            content: Vec::from_slice(alloc, content)?,
+            step: outside.step,
+            fails: fails_of(alloc, outside.reads, name)?,
+        })?;
+    }
+    Ok(made)
+}
+
+fn words_of(alloc: Global, words: &[&str]) -> Result<Vec<String>, AllocError> {
+    let mut made = Vec::new(alloc);
+    for word in words {
+        made.push(String::from_str(alloc, word)?)?;
+    }
+    Ok(made)
 }
 
 /// Runs the tool over files in memory.
-fn run(rt: &impl Abort, alloc: Global, case: &Case<'_>) -> Result<Left, AllocError> {
-    assert!(rt; 1 <= case.step);
-    let mut words = Vec::new(alloc);
-    for word in case.words {
-        words.push(String::from_str(alloc, word)?)?;
-    }
-    let mut files = Vec::new(alloc);
-    files.push(file(alloc, "bench.txt", case.bench, case.step, &[])?)?;
-    files.push(file(alloc, "a.dbc", case.database, case.step, &[])?)?;
-    files.push(file(alloc, "a.log", case.log, case.step, case.reads)?)?;
-    let mut library = MemLibrary::new(&files, Vec::from_slice(alloc, case.library)?);
+fn run(
+    rt: &impl Abort,
+    alloc: Global,
+    case: &Case<'_>,
+    outside: &Outside<'_>,
+) -> Result<Left, AllocError> {
+    assert!(rt; 1 <= outside.step);
+    let words = words_of(alloc, case.words)?;
+    let files = files_of(alloc, case.files, outside)?;
+    let mut library = MemLibrary::new(&files, Vec::from_slice(alloc, outside.library)?);
     let mut out = MemSink::new(
-        vec![in alloc; 0; case.room]?,
-        case.step,
-        Vec::from_slice(alloc, case.writes)?,
+        vec![in alloc; 0; outside.room]?,
+        outside.step,
+        Vec::from_slice(alloc, outside.writes)?,
     );
     let mut err = MemSink::new(
         vec![in alloc; 0; 256]?,
-        case.step,
-        Vec::from_slice(alloc, case.lines)?,
+        outside.step,
+        Vec::from_slice(alloc, outside.lines)?,
     );
     let ran = run_tool(alloc, &words, &mut library, &mut out, &mut err);
     Ok(Left {
@@ -113,18 +130,66 @@ fn run(rt: &impl Abort, alloc: Global, case: &Case<'_>) -> Result<Left, AllocErr
     })
 }
 
-/// The run ends so.
+/// The run ends so, with so many logs handed back.
 fn ends(
     rt: &impl Abort,
     alloc: Global,
     case: &Case<'_>,
-    code: u8,
-    out: &[u8],
-    err: &[u8],
+    outside: &Outside<'_>,
+    logs: usize,
 ) -> Result<(), AllocError> {
-    let left = run(rt, alloc, case)?;
-    assert_eq!(rt; left.status.code(), code);
-    assert_eq!(rt; left.out.as_slice(), out);
-    assert_eq!(rt; left.err.as_slice(), err);
+    let left = run(rt, alloc, case, outside)?;
+    assert_eq!(rt; left.status.code(), case.code);
+    assert_eq!(rt; left.out.as_slice(), case.out);
+    assert_eq!(rt; left.err.as_slice(), case.err);
+    assert_eq!(rt; left.logs, logs);
     Ok(())
 }
+
+/// The files of a bench that is decoded, and its text.
+type Decoded = (&'static [File<'static>], &'static [u8]);
+
+/// Each bench is decoded to its text.
+fn each_decodes(rt: &impl Abort, alloc: Global, rows: &[Decoded]) -> Result<(), AllocError> {
+    for (files, out) in rows {
+        let case = Case {
+            words: DECODE,
+            files,
+            code: 0,
+            out,
+            err: b"",
+        };
+        let left = run(rt, alloc, &case, &QUIET)?;
+        assert_eq!(rt; left.status.code(), 0);
+        assert_eq!(rt; left.out.as_slice(), *out);
+        assert_eq!(rt; left.err.len(), 0);
+    }
+    Ok(())
+}
+
+/// The words that decode the bench file of all cases.
+const DECODE: &[&str] = &["decode", "bench.txt"];
+
+/// The bench file of one CAN bus.
+const CAN: File<'static> = ("bench.txt", b"bus A can a.log a.dbc\n");
+
+/// A frame of the identifier 256, with a raw value of 4,000 in its first two bytes.
+const FRAME: File<'static> = ("a.log", b"(0000000001.000000) can0 100#A00F000000000000\n");
+
+/// A database in which that value is a speed of twice as many revolutions a minute.
+const SPEED: File<'static> = (
+    "a.dbc",
+    b"VERSION \"\"\nBO_ 256 Engine: 8 ECU\nSG_ Speed : 0|16@1+ (2,0) [0|131070] \"rpm\" Vector__XXX\n",
+);
+
+const SPEED_TEXT: &[u8] =
+    b"start A 0\nm A 0 0 1000000 Engine\ns Speed 4000 8000 \"rpm\"\nend A 1\n";
+
+/// That frame, decoded.
+const CLASSIC: Case<'static> = Case {
+    words: DECODE,
+    files: &[CAN, SPEED, FRAME],
+    code: 0,
+    out: SPEED_TEXT,
+    err: b"",
+};

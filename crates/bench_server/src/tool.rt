@@ -1,23 +1,29 @@
 //! The top call: what the program does for the words of its command line.
 
-ghost use Rattle.std.specs.Prelude.{◌≡◌, ◌⊎◌, ◌≤◌, [], Some, length, vec_len};
-ghost use Rattle.bench_server.specs.Words.{bench_word};
-ghost use Rattle.bench_server.specs.WordView.{words_of};
-ghost use Rattle.bench_server.specs.BusEnds.{AreRead, status_of};
-ghost use Rattle.bench_server.specs.ToolEnds.{EndsTool, ReportsTool, AreToolLogs, HasToolFiles, ReportsLine, AreWordLogs, HasWordFiles, AnswersExactly, HasOpened};
-ghost use Rattle.bench_server.specs.Ends.{HasFailed, stands};
-ghost use Rattle.bench_server.specs.FaultLine.{fault_line, Reports};
+ghost use Rattle.std.specs.Prelude.{◌≡◌, [], map, vec_len};
+ghost use Rattle.tool_words.specs.Commands.{command_of};
+ghost use Rattle.tool_words.specs.WordView.{words_of};
+ghost use Rattle.bench_inputs.specs.Asking.{library_told};
+ghost use Rattle.bench_inputs.specs.Reading.{log_told};
+ghost use Rattle.bus_text.specs.Fronts.{sink_told};
+ghost use Rattle.tool_words.specs.Commands.{Decodes, Checks};
+ghost use Rattle.bench_server.specs.Outcomes.{EndsDecode};
+ghost use Rattle.bench_server.specs.Loading.{seen, Keeps};
+ghost use Rattle.bench_server.specs.Tool.{EndsTool, AgreesWithFiles, ReportsTool};
+ghost use Rattle.std.specs.Prelude.{Some};
 
 use crate::Status;
-use crate::bench_file::bench_bus;
-use crate::bus::decode;
-use crate::files::read_file;
+use crate::checking::check;
+use crate::decoding::decode;
+use crate::refused::{decode_status, plan_status};
 use crate::report::report;
-use crate::status::BENCH_FILE;
-use crate::words::bench_word;
+use bench_file::limits_of_a_plan;
+use bench_inputs::read_bench;
+use bench_loader::one_verdict;
 use multiplex_tree::List;
 use port_io::{Library, Sink};
 use std::alloc::Global;
+use tool_words::{Command, command_of};
 
 /// What a run of the tool left: its status, and the logs that were opened, in order of buses, as they stand.
 #[derive(Drop)]
@@ -26,27 +32,8 @@ pub struct Ran<S> {
     pub logs: List<S>,
 }
 
-/// Appends the line of a status that needs no bus's name, and answers the status.
-fn stop<E: Sink>(err: &mut E, status: Status) -> Status
-    ensures status { result ≡ status }
-    ensures line { Reports (E.written err.old) (E.written err.new) (E.write_faults err.old) (E.write_faults err.new) (fault_line [] status) }
-{
-    report(err, b"", &status);
-    status
-}
-
-/// The status of a result.
-fn status_of(outcome: Result<(), Status>) -> Status
-    ensures { result ≡ status_of outcome }
-{
-    match outcome {
-        Ok(()) => Status::Ok,
-        Err(status) => status,
-    }
-}
-
-/// Decodes the bus of the bench file of this name.
-fn run<B: Library, K: Sink, E: Sink>(
+/// Decodes the logs of the bench file of this name.
+fn decode_bench<B: Library, K: Sink, E: Sink>(
     alloc: Global,
     bench: &str,
     library: &mut B,
@@ -56,43 +43,30 @@ fn run<B: Library, K: Sink, E: Sink>(
 ) -> Status
     requires none { logs.old.items ≡ [] }
     requires empty { vec_len logs.old ≡ 0 }
-    ensures ends { EndsTool (stands (B.files library.old) (B.open_faults library.old) (B.open_faults library.new) (B.more_faults library.old) (B.more_faults library.new)
-        (K.write_faults out.old) (K.write_faults out.new) (K.written out.old) (K.written out.new)) (Some bench.now) (HasFailed B.Log.read_faults logs.new.items) result }
-    ensures line { ReportsTool (B.files library.old) bench.now (E.written err.old) (E.written err.new) (E.write_faults err.old) (E.write_faults err.new) result }
-    ensures logs { AreToolLogs (B.files library.old) bench.now B.Log.left B.Log.taken logs.new.items }
-    ensures opened { HasOpened (length logs.new.items) result }
-    ensures ended { AreRead B.Log.ended logs.new.items result }
-    ensures kept { (K.written out.new ≡ K.written out.old) ⊎ (length logs.new.items ≡ 1) }
-    ensures opens { B.open_faults library.old ≤ B.open_faults library.new }
-    ensures reads { B.more_faults library.old ≤ B.more_faults library.new }
-    ensures writes { K.write_faults out.old ≤ K.write_faults out.new }
-    ensures files { B.files library.new ≡ B.files library.old }
-    ensures strays { HasToolFiles (B.files library.old) bench.now → B.strays library.new ≡ B.strays library.old }
+    ensures ends { EndsDecode bench.now (seen
+        (library_told (B.files library.old) (B.open_faults library.old) (B.more_faults library.old) (B.strays library.old))
+        (library_told (B.files library.new) (B.open_faults library.new) (B.more_faults library.new) (B.strays library.new))
+        (sink_told (K.written out.old) (K.write_faults out.old)) (sink_told (K.written out.new) (K.write_faults out.new))
+        (map (λ log. log_told (B.Log.left log) (B.Log.taken log) (B.Log.read_faults log) (B.Log.ended log)) logs.new.items))
+        result }
+    ensures keeps { Keeps (seen
+        (library_told (B.files library.old) (B.open_faults library.old) (B.more_faults library.old) (B.strays library.old))
+        (library_told (B.files library.new) (B.open_faults library.new) (B.more_faults library.new) (B.strays library.new))
+        (sink_told (K.written out.old) (K.write_faults out.old)) (sink_told (K.written out.new) (K.write_faults out.new)) []) }
+    ensures line { ReportsTool (B.files library.old) (Some (Decodes bench.now))
+        (sink_told (E.written err.old) (E.write_faults err.old)) (sink_told (E.written err.new) (E.write_faults err.new)) result }
 {
-    let Ok(()) = logs.reserve(1) else {
-        return stop(err, Status::Memory);
+    limits_of_a_plan();
+    let plan = match read_bench(alloc, library, bench) {
+        Ok(plan) => plan,
+        Err(refused) => return report(alloc, err, &[], plan_status(refused)),
     };
-    let bytes = match read_file(alloc, library, bench, BENCH_FILE) {
-        Ok(bytes) => bytes,
-        Err(status) => return stop(err, status),
-    };
-    let bus = match bench_bus(&bytes) {
-        Ok(bus) => bus,
-        Err(line) => return stop(
-            err,
-            Status::NotBuilt {
-                file: BENCH_FILE,
-                line,
-            },
-        ),
-    };
-    let status = status_of(decode(alloc, &bus, library, out, logs));
-    report(err, bus.name, &status);
-    status
+    let status = decode_status(decode(alloc, &plan, library, out, logs));
+    report(alloc, err, plan.buses.items(), status)
 }
 
-/// The status of the run for these words, with the logs that were opened.
-fn answer<B: Library, K: Sink, E: Sink>(
+/// Does what the words say, and answers the status.
+fn run<B: Library, K: Sink, E: Sink>(
     alloc: Global,
     words: &[String],
     library: &mut B,
@@ -102,28 +76,31 @@ fn answer<B: Library, K: Sink, E: Sink>(
 ) -> Status
     requires none { logs.old.items ≡ [] }
     requires empty { vec_len logs.old ≡ 0 }
-    ensures ends { EndsTool (stands (B.files library.old) (B.open_faults library.old) (B.open_faults library.new) (B.more_faults library.old) (B.more_faults library.new)
-        (K.write_faults out.old) (K.write_faults out.new) (K.written out.old) (K.written out.new)) (bench_word (words_of words.now)) (HasFailed B.Log.read_faults logs.new.items) result }
-    ensures line { ReportsLine (B.files library.old) (bench_word (words_of words.now)) (E.written err.old) (E.written err.new) (E.write_faults err.old) (E.write_faults err.new) result }
-    ensures logs { AreWordLogs (B.files library.old) (bench_word (words_of words.now)) B.Log.left B.Log.taken logs.new.items }
-    ensures opened { HasOpened (length logs.new.items) result }
-    ensures ended { AreRead B.Log.ended logs.new.items result }
-    ensures kept { (K.written out.new ≡ K.written out.old) ⊎ (length logs.new.items ≡ 1) }
-    ensures opens { B.open_faults library.old ≤ B.open_faults library.new }
-    ensures reads { B.more_faults library.old ≤ B.more_faults library.new }
-    ensures writes { K.write_faults out.old ≤ K.write_faults out.new }
-    ensures files { B.files library.new ≡ B.files library.old }
-    ensures strays { HasWordFiles (B.files library.old) (bench_word (words_of words.now)) → B.strays library.new ≡ B.strays library.old }
+    ensures ends { EndsTool (command_of (words_of words.now)) (seen
+        (library_told (B.files library.old) (B.open_faults library.old) (B.more_faults library.old) (B.strays library.old))
+        (library_told (B.files library.new) (B.open_faults library.new) (B.more_faults library.new) (B.strays library.new))
+        (sink_told (K.written out.old) (K.write_faults out.old)) (sink_told (K.written out.new) (K.write_faults out.new))
+        (map (λ log. log_told (B.Log.left log) (B.Log.taken log) (B.Log.read_faults log) (B.Log.ended log)) logs.new.items))
+        result }
+    ensures keeps { Keeps (seen
+        (library_told (B.files library.old) (B.open_faults library.old) (B.more_faults library.old) (B.strays library.old))
+        (library_told (B.files library.new) (B.open_faults library.new) (B.more_faults library.new) (B.strays library.new))
+        (sink_told (K.written out.old) (K.write_faults out.old)) (sink_told (K.written out.new) (K.write_faults out.new)) []) }
+    ensures line { ReportsTool (B.files library.old) (command_of (words_of words.now))
+        (sink_told (E.written err.old) (E.write_faults err.old)) (sink_told (E.written err.new) (E.write_faults err.new)) result }
 {
-    match bench_word(words) {
-        Some(bench) => run(alloc, bench, library, out, err, logs),
-        None => stop(err, Status::Usage),
+    match command_of(words) {
+        Some(Command::Decode { bench }) => decode_bench(alloc, bench, library, out, err, logs),
+        Some(Command::Check { file }) => {
+            let status = check(alloc, library, file, out);
+            report(alloc, err, &[], status)
+        }
+        None => report(alloc, err, &[], Status::Usage),
     }
 }
 
-/// What the program does for the words of its command line, of which this version takes `decode BENCH`: it
-/// appends to `out` the text of the bus that the bench file names, and to `err` the line of any status but
-/// success.
+/// What the program does for the words of its command line: `decode BENCH` appends to `out` the text of each bus that
+/// the bench file names, `check FILE` how much a database has; any status but `Ok` appends its line to `err`.
 pub fn run_tool<B: Library, K: Sink, E: Sink>(
     alloc: Global,
     words: &[String],
@@ -131,29 +108,33 @@ pub fn run_tool<B: Library, K: Sink, E: Sink>(
     out: &mut K,
     err: &mut E,
 ) -> Ran<B::Log>
-    // On success the text of the tool was appended to `out`, a function of the bytes of the bench file, the
-    // database and the log alone; each other status has its cause, and says what was written.
-    ensures ends { EndsTool (stands (B.files library.old) (B.open_faults library.old) (B.open_faults library.new) (B.more_faults library.old) (B.more_faults library.new)
-        (K.write_faults out.old) (K.write_faults out.new) (K.written out.old) (K.written out.new)) (bench_word (words_of words.now)) (HasFailed B.Log.read_faults result.logs) result.status }
-    // A refused form is named exactly, and no lawful one is refused.
-    ensures exact { AnswersExactly (B.files library.old) (bench_word (words_of words.now)) result.status }
-    // The status's line was appended to `err`, or a front of it where that sink's count of faults rose.
-    ensures line { ReportsLine (B.files library.old) (bench_word (words_of words.now)) (E.written err.old) (E.written err.new) (E.write_faults err.old) (E.write_faults err.new) result.status }
-
-    // The logs that were opened stand as they were left: read to the end where all was read, and handed back
-    // whenever something was written. No missing file was asked for where the one before it is refused.
-    ensures logs { AreWordLogs (B.files library.old) (bench_word (words_of words.now)) B.Log.left B.Log.taken result.logs }
-    ensures opened { HasOpened (length result.logs) result.status }
-    ensures ended { AreRead B.Log.ended result.logs result.status }
-    ensures kept { (K.written out.new ≡ K.written out.old) ⊎ (length result.logs ≡ 1) }
-    ensures opens { B.open_faults library.old ≤ B.open_faults library.new }
-    ensures reads { B.more_faults library.old ≤ B.more_faults library.new }
-    ensures writes { K.write_faults out.old ≤ K.write_faults out.new }
-    ensures files { B.files library.new ≡ B.files library.old }
-    ensures strays { HasWordFiles (B.files library.old) (bench_word (words_of words.now)) → B.strays library.new ≡ B.strays library.old }
+    // What each status was caused by, what it shows of the files, what was written, and which logs are handed back.
+    ensures ends { EndsTool (command_of (words_of words.now)) (seen
+        (library_told (B.files library.old) (B.open_faults library.old) (B.more_faults library.old) (B.strays library.old))
+        (library_told (B.files library.new) (B.open_faults library.new) (B.more_faults library.new) (B.strays library.new))
+        (sink_told (K.written out.old) (K.write_faults out.old)) (sink_told (K.written out.new) (K.write_faults out.new))
+        (map (λ log. log_told (B.Log.left log) (B.Log.taken log) (B.Log.read_faults log) (B.Log.ended log)) result.logs))
+        result.status }
+    // The files decide: what they are refused for is named, and what they make is the text.
+    ensures exact { AgreesWithFiles (command_of (words_of words.now)) (seen
+        (library_told (B.files library.old) (B.open_faults library.old) (B.more_faults library.old) (B.strays library.old))
+        (library_told (B.files library.new) (B.open_faults library.new) (B.more_faults library.new) (B.strays library.new))
+        (sink_told (K.written out.old) (K.write_faults out.old)) (sink_told (K.written out.new) (K.write_faults out.new))
+        (map (λ log. log_told (B.Log.left log) (B.Log.taken log) (B.Log.read_faults log) (B.Log.ended log)) result.logs))
+        result.status }
+    // The status's line was appended to `err`, or a prefix of it where that sink's count of faults rose.
+    ensures line { ReportsTool (B.files library.old) (command_of (words_of words.now))
+        (sink_told (E.written err.old) (E.write_faults err.old)) (sink_told (E.written err.new) (E.write_faults err.new))
+        result.status }
+    // No file changes, and no count falls.
+    ensures keeps { Keeps (seen
+        (library_told (B.files library.old) (B.open_faults library.old) (B.more_faults library.old) (B.strays library.old))
+        (library_told (B.files library.new) (B.open_faults library.new) (B.more_faults library.new) (B.strays library.new))
+        (sink_told (K.written out.old) (K.write_faults out.old)) (sink_told (K.written out.new) (K.write_faults out.new)) []) }
 {
+    one_verdict();
     let mut logs = Vec::new(alloc);
-    let status = answer(alloc, words, library, out, err, &mut logs);
+    let status = run(alloc, words, library, out, err, &mut logs);
     Ran {
         status,
         logs: List::of(logs),

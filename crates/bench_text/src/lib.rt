@@ -1,7 +1,7 @@
 //! The text of a bench, printed as the logs of its buses are read, one after another.
 //!
 //! `bus_text` prints one bus; here are all buses of a bench, through one buffer that is flushed behind the last. The
-//! tool's `decode` is to print by it. No crate uses it yet.
+//! tool's `decode` prints by it.
 //!
 //! Main theorem: on Ok `print_buses` has written exactly the texts of all buses of the bench, in order, each that of
 //! all lines of its log's bytes; where a log fails or is too long the whole texts of the buses before it and its own as

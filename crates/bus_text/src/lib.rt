@@ -2,7 +2,7 @@
 //!
 //! `candump_log` gives the lines of a log, `decoded_list` the records of each and `subscriber_text` their text;
 //! here they are one stream: a log of any length is decoded and printed through one buffer, in memory that does
-//! not grow with it. The tool's `decode` is to print its buses by it, one after another. No crate uses it yet.
+//! not grow with it. `bench_text` prints the buses of a bench by it, one after another.
 //!
 //! Main theorem: on Ok `print_bus` has given exactly the text of all lines of the log's bytes, its start, its records
 //! and its end, to the buffer and the sink behind it; where the log fails or is too long just the text as far as the

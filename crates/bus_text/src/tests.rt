@@ -38,7 +38,7 @@ fn bench_of(alloc: Global, case: &Case) -> Result<Bench, Fail>
     ensures bus { IfOk result (λ bench. length bench.buses ≡ 1) }
     ensures valid { IfOk result (λ bench. All (λ b. IsValid b.database) bench.buses) }
 {
-    let bus = bus_of(alloc, case.bus, case.kind, case.messages)?;
+    let bus = bus_of(alloc, case.bus, case.kind, case.message.as_ref())?;
     Ok(Bench {
         buses: List::of(vec![in alloc; bus]?),
     })
@@ -49,8 +49,8 @@ fn bench_of_two(alloc: Global, first: &Case, second: &Case) -> Result<Bench, Fai
     ensures bus { IfOk result (λ bench. length bench.buses ≡ 2) }
     ensures valid { IfOk result (λ bench. All (λ b. IsValid b.database) bench.buses) }
 {
-    let one = bus_of(alloc, first.bus, first.kind, first.messages)?;
-    let two = bus_of(alloc, second.bus, second.kind, second.messages)?;
+    let one = bus_of(alloc, first.bus, first.kind, first.message.as_ref())?;
+    let two = bus_of(alloc, second.bus, second.kind, second.message.as_ref())?;
     Ok(Bench {
         buses: List::of(vec![in alloc; one, two]?),
     })

@@ -3,12 +3,12 @@
 use super::databases::{ENGINE_SPEED, LAMPS, LEVEL, MessageRow, SPEED, STATUS};
 use bench_model::Kind;
 
-/// A log of a bus, the messages of the bus's database, and the log's text.
+/// A log of a bus, the message of the bus's database where it has one, and the log's text.
 #[derive(Drop)]
 pub(crate) struct Case {
     pub bus: &'static [u8],
     pub kind: Kind,
-    pub messages: &'static [MessageRow],
+    pub message: Option<MessageRow>,
     pub log: &'static str,
     pub text: &'static str,
 }
@@ -16,7 +16,7 @@ pub(crate) struct Case {
 pub(crate) const FRAME: Case = Case {
     bus: b"A",
     kind: Kind::Can,
-    messages: &[SPEED],
+    message: Some(SPEED),
     log: "(0000000001.000000) can0 100#A00F000000000000\n",
     text: "start A 0\n\
            m A 0 0 1000000 Engine\n\
@@ -28,7 +28,7 @@ pub(crate) const FRAME: Case = Case {
 pub(crate) const FRAMES: Case = Case {
     bus: b"A",
     kind: Kind::Can,
-    messages: &[SPEED],
+    message: Some(SPEED),
     log: "(0000000001.000000) can0 100#A00F000000000000\n\
           (0000000001.000001) can0 100#0100000000000000\n\
           (0000000001.000002) can0 101#0200000000000000\n",
@@ -44,7 +44,7 @@ pub(crate) const FRAMES: Case = Case {
 pub(crate) const EMPTY: Case = Case {
     bus: b"A",
     kind: Kind::Can,
-    messages: &[SPEED],
+    message: Some(SPEED),
     log: "",
     text: "end A 0\n",
 };
@@ -53,7 +53,7 @@ pub(crate) const EMPTY: Case = Case {
 pub(crate) const KINDS: Case = Case {
     bus: b"A",
     kind: Kind::Can,
-    messages: &[],
+    message: None,
     log: "(1.000000) can0 123##1AABB\n\
           (1.000001) can0 123#R\n\
           (1.000002) can0 20000004#0000000000000000\n\
@@ -75,7 +75,7 @@ pub(crate) const KINDS: Case = Case {
 pub(crate) const TO_ALL: Case = Case {
     bus: b"J",
     kind: Kind::J1939,
-    messages: &[],
+    message: None,
     log: "(1.000000) can0 18ECFF00#200A0002FFCAFE00\n\
           (1.050000) can0 18EBFF00#0111223344556677\n\
           (1.100000) can0 18EBFF00#028899AAFFFFFFFF\n",
@@ -91,7 +91,7 @@ pub(crate) const TO_ALL: Case = Case {
 pub(crate) const TWICE: Case = Case {
     bus: b"J",
     kind: Kind::J1939,
-    messages: &[],
+    message: None,
     log: "(1.000000) can0 18ECFF00#200A0002FFCAFE00\n\
           (1.050000) can0 18EBFF00#0111223344556677\n\
           (1.050000) can0 18EBFF00#0111223344556677\n\
@@ -109,7 +109,7 @@ pub(crate) const TWICE: Case = Case {
 pub(crate) const OUT_OF_ORDER: Case = Case {
     bus: b"J",
     kind: Kind::J1939,
-    messages: &[],
+    message: None,
     log: "(1.000000) can0 18ECFF00#200A0002FFCAFE00\n\
           (1.050000) can0 18EBFF00#028899AAFFFFFFFF\n",
     text: "start J 0\n\
@@ -123,7 +123,7 @@ pub(crate) const OUT_OF_ORDER: Case = Case {
 pub(crate) const IN_TIME: Case = Case {
     bus: b"J",
     kind: Kind::J1939,
-    messages: &[],
+    message: None,
     log: "(1.000000) can0 18EC0102#100A0002FFCAFE00\n\
           (1.100000) can0 18EB0102#0111223344556677\n\
           (2.350000) can0 18EB0102#028899AAFFFFFFFF\n",
@@ -139,7 +139,7 @@ pub(crate) const IN_TIME: Case = Case {
 pub(crate) const LATE: Case = Case {
     bus: b"J",
     kind: Kind::J1939,
-    messages: &[],
+    message: None,
     log: "(1.000000) can0 18EC0102#100A0002FFCAFE00\n\
           (1.100000) can0 18EB0102#0111223344556677\n\
           (2.350001) can0 18EB0102#028899AAFFFFFFFF\n",
@@ -155,7 +155,7 @@ pub(crate) const LATE: Case = Case {
 pub(crate) const TANK: Case = Case {
     bus: b"B",
     kind: Kind::Can,
-    messages: &[LEVEL],
+    message: Some(LEVEL),
     log: "(0000000001.000000) can0 100#A00F000000000000\n",
     text: "start B 0\n\
            m B 0 0 1000000 Tank\n\
@@ -167,7 +167,7 @@ pub(crate) const TANK: Case = Case {
 pub(crate) const LISTED: Case = Case {
     bus: b"L",
     kind: Kind::Lin,
-    messages: &[STATUS],
+    message: Some(STATUS),
     log: "(0000000001.000000) lin0 010#FF00\n\
           (0000000001.000000) lin0 010#6400\n",
     text: "start L 0\n\
@@ -182,7 +182,7 @@ pub(crate) const LISTED: Case = Case {
 pub(crate) const GROUP: Case = Case {
     bus: b"J",
     kind: Kind::J1939,
-    messages: &[ENGINE_SPEED],
+    message: Some(ENGINE_SPEED),
     log: "(0000000001.000000) can0 0CF00400#FFFFFF6813FFFFFF\n",
     text: "start J 0\n\
            m J 0 0 1000000 EEC1\n\
@@ -194,7 +194,7 @@ pub(crate) const GROUP: Case = Case {
 pub(crate) const WHOLE_GROUP: Case = Case {
     bus: b"J",
     kind: Kind::J1939,
-    messages: &[LAMPS],
+    message: Some(LAMPS),
     log: "(1.000000) can0 18ECFF00#200A0002FFCAFE00\n\
           (1.050000) can0 18EBFF00#0111223344556677\n\
           (1.100000) can0 18EBFF00#028899AAFFFFFFFF\n",

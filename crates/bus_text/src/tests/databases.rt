@@ -178,26 +178,29 @@ fn message_of(alloc: Global, row: &MessageRow) -> Result<Message, Fail>
     })
 }
 
-fn messages_of(alloc: Global, rows: &[MessageRow]) -> Result<Vec<Message>, Fail>
+/// No message, or one.
+fn messages_of(alloc: Global, row: Option<&MessageRow>) -> Result<Vec<Message>, Fail>
     ensures { IfOk result (λ messages. All IsMade messages.items) }
 {
-    let mut messages = Vec::new(alloc);
-    for row in rows {
-        messages.push(message_of(alloc, row)?)?;
+    match row {
+        Some(row) => {
+            let message = message_of(alloc, row)?;
+            Ok(vec![in alloc; message]?)
+        }
+        None => Ok(Vec::new(alloc)),
     }
-    Ok(messages)
 }
 
-/// A bus whose database has these messages.
+/// A bus whose database has this message, where there is one.
 pub(crate) fn bus_of(
     alloc: Global,
     name: &[u8],
     kind: Kind,
-    rows: &[MessageRow],
+    row: Option<&MessageRow>,
 ) -> Result<Bus, Fail>
     ensures { IfOk result (λ bus. IsValid bus.database) }
 {
-    let messages = List::of(messages_of(alloc, rows)?);
+    let messages = List::of(messages_of(alloc, row)?);
     let valid = check(alloc, Database { messages })?;
     Ok(Bus {
         name: Text::of(alloc, name)?,

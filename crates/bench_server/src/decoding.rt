@@ -1,0 +1,134 @@
+//! `decode`: the buses of a plan, from their files to the output.
+
+ghost use Rattle.std.specs.Prelude.{◌≡◌, ◌≤◌, ℕ, List, [], length, map, vec_len, IfOk, IfSome};
+ghost use Rattle.bench_model.specs.ValidBench.{most_buses};
+ghost use Rattle.bench_file.specs.declared.plan.Plan.{Plan as AnyPlan};
+ghost use Rattle.bench_inputs.specs.Asking.{library_told};
+ghost use Rattle.bench_inputs.specs.BenchFiles.{HasPlan};
+ghost use Rattle.bench_inputs.specs.Reading.{log_told};
+ghost use Rattle.bus_text.specs.Fronts.{sink_told};
+ghost use Rattle.bench_server.specs.ToolText.{bus_names, all_wanted};
+ghost use Rattle.bench_server.specs.Outcomes.{EndsDecode};
+ghost use Rattle.bench_server.specs.EndView.{decode_status};
+ghost use Rattle.bench_server.specs.Loading.{seen, Keeps, LoadsDatabases, IsBenchOf};
+
+use crate::refused::DecodeRefused;
+use bench_file::{Plan, PlannedBus};
+use bench_inputs::{one_reading_of_databases, open_logs, read_databases};
+use bench_loader::judge_bench;
+use bench_model::{Bench, Text};
+use bench_text::print_buses;
+use bus_text::TextBuffer;
+use port_io::{Library, Sink};
+use std::alloc::{AllocError, Global};
+use subscriber_text::Wants;
+
+/// What printing takes before the first log is opened.
+#[derive(Drop)]
+struct Printing {
+    wants: Wants,
+    buffer: TextBuffer,
+}
+
+/// The names of the buses of a bench, in order.
+fn names_of(alloc: Global, bench: &Bench) -> Result<Vec<Text>, AllocError>
+    ensures { IfOk result (λ names. names.items ≡ bus_names bench.now) }
+{
+    let mut names = Vec::new(alloc);
+    for bus in bench.buses.items() {
+        names.push(bus.name.copy(alloc)?)?;
+    }
+    Ok(names)
+}
+
+/// Wants of everything, and a buffer with nothing in it.
+fn printing_of(alloc: Global, bench: &Bench) -> Result<Printing, AllocError>
+    ensures wants { IfOk result (λ p. p.wants ≡ all_wanted bench.now) }
+    ensures buffer { IfOk result (λ p. p.buffer ≡ []) }
+{
+    let names = names_of(alloc, bench)?;
+    Ok(Printing {
+        wants: Wants::all(alloc, &names)?,
+        buffer: TextBuffer::new(alloc)?,
+    })
+}
+
+/// Reads the databases of these buses and then judges them, in order.
+fn load_databases<B: Library>(
+    alloc: Global,
+    library: &mut B,
+    buses: &[PlannedBus],
+) -> Result<Bench, DecodeRefused>
+    requires few { length buses.now ≤ most_buses }
+    ensures { LoadsDatabases
+        (library_told (B.files library.old) (B.open_faults library.old) (B.more_faults library.old) (B.strays library.old))
+        buses.now result
+        (library_told (B.files library.new) (B.open_faults library.new) (B.more_faults library.new) (B.strays library.new)) }
+{
+    one_reading_of_databases();
+    let files = read_databases(alloc, library, buses)?;
+    Ok(judge_bench(alloc, buses, &files)?)
+}
+
+/// Opens the logs of these buses and prints the text of each.
+fn decode_logs<B: Library, K: Sink>(
+    alloc: Global,
+    buses: &[PlannedBus],
+    bench: &Bench,
+    library: &mut B,
+    out: &mut K,
+    logs: &mut Vec<B::Log>,
+) -> Result<(), DecodeRefused>
+    requires few { length buses.now ≤ most_buses }
+    requires none { logs.old.items ≡ [] }
+    requires empty { vec_len logs.old ≡ 0 }
+    requires bench { IsBenchOf
+        (library_told (B.files library.old) (B.open_faults library.old) (B.more_faults library.old) (B.strays library.old))
+        buses.now bench.now }
+    ensures ends { (name : List ℕ) (plan : AnyPlan) → plan.buses ≡ buses.now
+        → IfSome (B.files library.old) (λ files. HasPlan files name plan)
+        → EndsDecode name (seen
+        (library_told (B.files library.old) (B.open_faults library.old) (B.more_faults library.old) (B.strays library.old))
+        (library_told (B.files library.new) (B.open_faults library.new) (B.more_faults library.new) (B.strays library.new))
+        (sink_told (K.written out.old) (K.write_faults out.old)) (sink_told (K.written out.new) (K.write_faults out.new))
+        (map (λ log. log_told (B.Log.left log) (B.Log.taken log) (B.Log.read_faults log) (B.Log.ended log)) logs.new.items))
+        (decode_status result) }
+    ensures keeps { Keeps (seen
+        (library_told (B.files library.old) (B.open_faults library.old) (B.more_faults library.old) (B.strays library.old))
+        (library_told (B.files library.new) (B.open_faults library.new) (B.more_faults library.new) (B.strays library.new))
+        (sink_told (K.written out.old) (K.write_faults out.old)) (sink_told (K.written out.new) (K.write_faults out.new)) []) }
+{
+    let Printing { wants, mut buffer } = printing_of(alloc, bench)?;
+    logs.reserve(buses.len())?;
+    open_logs(library, buses, logs)?;
+    print_buses(alloc, bench, &wants, logs, &mut buffer, out)?;
+    Ok(())
+}
+
+/// Decodes the buses of a plan.
+pub(crate) fn decode<B: Library, K: Sink>(
+    alloc: Global,
+    plan: &Plan,
+    library: &mut B,
+    out: &mut K,
+    logs: &mut Vec<B::Log>,
+) -> Result<(), DecodeRefused>
+    requires few { length plan.now.buses ≤ most_buses }
+    requires none { logs.old.items ≡ [] }
+    requires empty { vec_len logs.old ≡ 0 }
+    ensures ends { (name : List ℕ) → IfSome (B.files library.old) (λ files. HasPlan files name plan.now)
+        → EndsDecode name (seen
+        (library_told (B.files library.old) (B.open_faults library.old) (B.more_faults library.old) (B.strays library.old))
+        (library_told (B.files library.new) (B.open_faults library.new) (B.more_faults library.new) (B.strays library.new))
+        (sink_told (K.written out.old) (K.write_faults out.old)) (sink_told (K.written out.new) (K.write_faults out.new))
+        (map (λ log. log_told (B.Log.left log) (B.Log.taken log) (B.Log.read_faults log) (B.Log.ended log)) logs.new.items))
+        (decode_status result) }
+    ensures keeps { Keeps (seen
+        (library_told (B.files library.old) (B.open_faults library.old) (B.more_faults library.old) (B.strays library.old))
+        (library_told (B.files library.new) (B.open_faults library.new) (B.more_faults library.new) (B.strays library.new))
+        (sink_told (K.written out.old) (K.write_faults out.old)) (sink_told (K.written out.new) (K.write_faults out.new)) []) }
+{
+    let buses = plan.buses.items();
+    let bench = load_databases(alloc, library, buses)?;
+    decode_logs(alloc, buses, &bench, library, out, logs)
+}

@@ -1,9 +1,0 @@
-pub mod Statement
-pub mod Names
-pub mod Spelling
-pub mod Lawful
-pub mod Reading
-pub mod Views
-pub mod Reader
-pub mod Gives
-pub mod Contract
