@@ -24,7 +24,7 @@ use Rattle.bench_server.specs.Outcomes.{Seen, Wrote, WroteNothing, WrotePrefix, 
 use Rattle.bench_server.specs.Loading.{MakeBench}
 use Rattle.bench_server.proofs.OptionLaws.{if_some, of_some}
 use Rattle.bench_server.proofs.LogLaws.{reads_of, ReadOf, opened_named, all_unread, all_heard}
-use Rattle.bench_server.proofs.StopLaws.{stops_failed, stops_long, stops_text}
+use Rattle.bench_server.proofs.StopLaws.{stops_failed, stops_long, read_in_order, stops_text}
 use Rattle.bench_server.proofs.StrayLaws.{none_astray, logs_there, then_there, first_missing, AreThere}
 
 -- the bench file of this name makes this plan, whose buses make this bench
@@ -83,7 +83,7 @@ module _ (name : List ℕ) (plan : Plan) (bench : Bench) (s : Seen) (logs : List
   caused_by (Ok done) p = all_heard logs s.logs p.to_end
   caused_by (Err (refused.ReadFault bus)) p = stops_failed s.library.files (log_names plan.buses) logs s.logs opens.fresh bus p.0.stops p.0.goes_on p.1 p.2
   caused_by (Err (refused.TooLong bus)) p = stops_long s.library.files (log_names plan.buses) logs s.logs opens.fresh bus p.0.stops p.0.goes_on p.1
-  caused_by (Err refused.WriteFault) p = p.1
+  caused_by (Err refused.WriteFault) p = (p.1, read_in_order s.library.files (log_names plan.buses) logs s.logs opens.fresh p.0.reads)
   caused_by (Err refused.Memory) p = tt
 
   prefix_by : (bytes : List (List ℕ)) → HaveLeft logs bytes → PrintsPrefix (all_wanted bench) bench logs s.logs s.out s.out_now

@@ -1,5 +1,5 @@
 -- The log at which a print stopped: it failed or is too long, and its text goes as far as it was taken.
-use Rattle.std.proofs.Common.{◌≡◌, ℕ, ◌<◌, ◌≤◌, List, [], ◌++◌, length, take, Option, Some, None, refl, sym, ap, subst, ◌∙◌, false}
+use Rattle.std.proofs.Common.{◌≡◌, ℕ, ◌<◌, ◌≤◌, List, [], ◌++◌, length, take, Option, Some, None, refl, sym, ap, subst, ◌∙◌, false, inl, inr}
 use Rattle.std.specs.Option.{IfSome, option_map}
 use Rattle.std.specs.List.{AllZip}
 use Rattle.std.proofs.lemmas.Option.{IfSome_then}
@@ -15,7 +15,7 @@ use Rattle.bench_text.specs.LogsRead.{HaveLeft, IsReadToEnd}
 use Rattle.bench_text.specs.LogsRead as read
 use Rattle.bench_text.specs.Printing.{PrintsTo}
 use Rattle.bench_server.specs.ToolText.{all_wanted, text_of, text_up_to}
-use Rattle.bench_server.specs.Outcomes.{IsUnread, HasFailed, IsTooLong, StopsAt}
+use Rattle.bench_server.specs.Outcomes.{IsUnread, HasFailed, IsTooLong, StopsAt, AreHeardInOrder}
 use Rattle.bench_server.proofs.OptionLaws.{of_some}
 use Rattle.bench_server.proofs.LogLaws.{unread_from, all_heard, zip_length, left_before}
 
@@ -64,6 +64,14 @@ module _ (files : Option Files) (names : List (List ℕ)) (logs logs_now : List 
         goes_on = goes_on;
         long = IfSome_then st.log_now.taken (taken_of st.log st.log_now st.took unread st.takes) (λ taken e. ap length e ∙ long);
       })
+
+  -- the logs were read in order
+  pub read_in_order : read.ReadsInOrder logs logs_now → AreHeardInOrder logs_now
+  read_in_order r =
+      elim r [
+        | inl all ↦ inl (all_heard logs logs_now all)
+        | inr st ↦ inr (st.0, stop_at files names logs logs_now st.0 st.1 f (λ _. Unit {0}) tt)
+      ]
 
   -- where the logs are told, the text goes as far as this one was taken
   pub stops_text : (bench : Bench) (bus : ℕ) (out out_now : SinkState) (bytes : List (List ℕ)) → HaveLeft logs bytes → (p : PrintsTo (all_wanted bench) bench bus logs logs_now out out_now)

@@ -9,12 +9,15 @@ use Rattle.bench_inputs.specs.Reading.{ReadsPlan}
 use Rattle.bench_server.proofs.PhaseLaws.{plan_asked, plan_read, ends_since}
 use Rattle.bench_inputs.specs.BenchFiles.{HasPlan}
 use Rattle.bench_loader.specs.declared.fault.DatabaseFault.{DatabaseFault}
+use Rattle.bench_model.specs.declared.database.Database.{Database}
+use Rattle.bench_loader.specs.Checking.{CheckVerdict, has_fault, has_database, IsCheckVerdict}
 use Rattle.bench_loader.specs.Verdict.{Run, Verdict, faulty, refused, decodes, IsVerdict}
 use Rattle.bench_server.specs.declared.status.Status.{Status}
 use Rattle.bench_server.specs.declared.status.Status.TheVariants as status
 use Rattle.bench_server.specs.Outcomes.{Seen, WroteNothing, Decodes, Caused, Shows, EndsDecode}
+use Rattle.bench_server.specs.CheckOutcomes.{Counts, ShowsCheck}
 use Rattle.bench_server.specs.Reporting.{Stays}
-use Rattle.bench_server.specs.Tool.{EndsTool, Decided, Agrees, AgreesWithFiles, NothingFailed, IsWhole}
+use Rattle.bench_server.specs.Tool.{EndsTool, Decided, Agrees, AgreesWithFiles, NothingFailed, IsWhole, Held, AgreesCheck}
 use Rattle.tool_words.specs.Commands.{ToolCommand}
 use Rattle.tool_words.specs.Commands as commands
 use Rattle.bench_server.proofs.OptionLaws.{if_some, of_some}
@@ -75,7 +78,7 @@ whole_by s (status.Refused (Some bus) fault) run c a n = cc
 whole_by s status.OpenFault run c a n = absurd (n.opens c.0)
 whole_by s (status.ReadFault None) run c a n = absurd (n.reads c.0)
 whole_by s (status.ReadFault (Some bus)) run c a n = absurd (n.logs bus c)
-whole_by s status.WriteFault run c a n = absurd (n.writes c)
+whole_by s status.WriteFault run c a n = absurd (n.writes c.0)
 whole_by s (status.TooLong bus) run c a n = absurd (n.short bus c)
 whole_by s status.Memory run c a n = inr refl
 
@@ -83,11 +86,32 @@ whole_by s status.Memory run c a n = inr refl
 pub whole : (bench : List ℕ) (s : Seen) (end : Status) (run : Run) → EndsDecode bench s end → Agrees (decodes run) s end → NothingFailed s → IsWhole end
 whole bench s end run h a n = whole_by s end run h.caused a n
 
+-- the same of a file that is checked
+module _ (files : Files) (name : List ℕ) (s : Seen) (one : (v w : CheckVerdict) → IsCheckVerdict files name v → IsCheckVerdict files name w → v ≡ w) where
+  held : (Holds : Database → Type 0) → Counts files name Holds → (v : CheckVerdict) → IsCheckVerdict files name v → Held v Holds
+  held Holds c v i = subst (λ (w : CheckVerdict). Held w Holds) (one (has_database c.database) v c.is_there i) c.holds
+
+  pub check_agrees : (end : Status) → ShowsCheck files name s end → (v : CheckVerdict) → IsCheckVerdict files name v → AgreesCheck v s end
+  check_agrees status.Ok h v i = held _ h v i
+  check_agrees status.Usage h v i = h
+  check_agrees (status.BenchFile line) h v i = h
+  check_agrees (status.Refused None fault) h v i = one v (has_fault fault) i h
+  check_agrees (status.Refused (Some bus) fault) h v i = h
+  check_agrees status.OpenFault h v i = tt
+  check_agrees (status.ReadFault None) h v i = tt
+  check_agrees (status.ReadFault (Some bus)) h v i = h
+  check_agrees status.WriteFault h v i = held _ h v i
+  check_agrees (status.TooLong bus) h v i = h
+  check_agrees status.Memory h v i = tt
+
 -- the same of a run for the words
 pub exact_by : (command : Option ToolCommand) (s : Seen) (end : Status) → ((files : Files) (name : List ℕ) (v w : Verdict) → IsVerdict files name v → IsVerdict files name w → v ≡ w)
+    → ((files : Files) (name : List ℕ) (v w : CheckVerdict) → IsCheckVerdict files name v → IsCheckVerdict files name w → v ≡ w)
     → EndsTool command s end → AgreesWithFiles command s end
-exact_by None s end one h = tt
-exact_by (Some (commands.Decodes bench)) s end one h =
+exact_by None s end one check h = tt
+exact_by (Some (commands.Decodes bench)) s end one check h =
     if_some s.library.files (λ files. (v : Verdict) → IsVerdict files bench v → Agrees v s end) (λ files e v i.
     agrees files bench s (one files bench) end (of_some s.library.files (λ files. Shows files bench s end) files e h.shows) v i)
-exact_by (Some (commands.Checks file)) s end one h = tt
+exact_by (Some (commands.Checks file)) s end one check h =
+    if_some s.library.files (λ files. (v : CheckVerdict) → IsCheckVerdict files file v → AgreesCheck v s end) (λ files e v i.
+    check_agrees files file s (check files file) end (of_some s.library.files (λ files. ShowsCheck files file s end) files e h.shows) v i)

@@ -72,7 +72,11 @@ pub record StopsAt (logs : List SourceState) (bus : ℕ) (Holds : SourceState �
   pub unread : All IsUnread behind
   pub holds : Holds log
 
--- the cause of each status, and what was written before any log was read
+-- the logs were read in order: all to their ends, or up to one, and those behind it not at all
+abbrev pub AreHeardInOrder : List SourceState → Type 0
+AreHeardInOrder logs = All IsHeard logs ⊎ ((bus : ℕ) × StopsAt logs bus (λ _. Unit {0}))
+
+-- the cause of each status: counts that rose, how far the logs were read, and that nothing was written where none was read
 abbrev pub Caused : Seen → Status → Type 0
 Caused s status.Ok = All IsHeard s.logs
 Caused s status.Usage = ⊥
@@ -84,7 +88,7 @@ Caused s status.OpenFault =
 Caused s (status.ReadFault None) =
     Rose s.library.more_faults s.library_now.more_faults × WroteNothing s × (s.logs ≡ [])
 Caused s (status.ReadFault (Some bus)) = StopsAt s.logs bus HasFailed
-Caused s status.WriteFault = Rose s.out.write_faults s.out_now.write_faults
+Caused s status.WriteFault = Rose s.out.write_faults s.out_now.write_faults × AreHeardInOrder s.logs
 Caused s (status.TooLong bus) = StopsAt s.logs bus IsTooLong
 Caused s status.Memory = Unit {0}
 

@@ -10,7 +10,9 @@ use Rattle.bench_inputs.specs.BenchFiles.{HasPlan}
 use Rattle.bench_loader.specs.Verdict.{Verdict, missing, faulty, refused, decodes, IsVerdict, Run}
 use Rattle.bench_server.specs.declared.status.Status.{Status}
 use Rattle.bench_server.specs.declared.status.Status.TheVariants as status
-use Rattle.bench_server.specs.ToolText.{tool_text}
+use Rattle.bench_model.specs.declared.database.Database.{Database}
+use Rattle.bench_loader.specs.Checking.{CheckVerdict, not_there, has_fault, has_database, IsCheckVerdict}
+use Rattle.bench_server.specs.ToolText.{tool_text, check_text}
 use Rattle.bench_server.specs.Outcomes.{Seen, Wrote, WrotePrefix, HasFailed, IsTooLong, StopsAt, WroteTo, EndsDecode}
 use Rattle.bench_server.specs.CheckOutcomes.{EndsCheck}
 use Rattle.bench_server.specs.Pieces.{WritesFront}
@@ -50,12 +52,33 @@ Agrees v s status.WriteFault = Decided v (λ run. WrotePrefix s (tool_text run))
 Agrees v s (status.TooLong bus) = Decided v (λ run. StopsAt s.logs bus (WroteTo s run bus))
 Agrees v s status.Memory = Unit {0}
 
+-- the file is a database, and this holds of it
+abbrev pub Held : CheckVerdict → (Database → Type 0) → Type 0
+Held not_there Holds = ⊥
+Held (has_fault fault) Holds = ⊥
+Held (has_database d) Holds = Holds d
+
+-- what each status says of the verdict that the files decide of one that is checked
+abbrev pub AgreesCheck : CheckVerdict → Seen → Status → Type 0
+AgreesCheck v s status.Ok = Held v (λ d. Wrote s (check_text d))
+AgreesCheck v s status.Usage = ⊥
+AgreesCheck v s (status.BenchFile line) = ⊥
+AgreesCheck v s (status.Refused None fault) = v ≡ has_fault fault
+AgreesCheck v s (status.Refused (Some bus) fault) = ⊥
+AgreesCheck v s status.OpenFault = Unit {0}
+AgreesCheck v s (status.ReadFault None) = Unit {0}
+AgreesCheck v s (status.ReadFault (Some bus)) = ⊥
+AgreesCheck v s status.WriteFault = Held v (λ d. WrotePrefix s (check_text d))
+AgreesCheck v s (status.TooLong bus) = ⊥
+AgreesCheck v s status.Memory = Unit {0}
+
 -- whatever verdict the files have, the status agrees with it
 abbrev pub AgreesWithFiles : Option ToolCommand → Seen → Status → Type 0
 AgreesWithFiles None s end = Unit {0}
 AgreesWithFiles (Some (Decodes bench)) s end =
     IfSome s.library.files (λ files. (v : Verdict) → IsVerdict files bench v → Agrees v s end)
-AgreesWithFiles (Some (Checks file)) s end = Unit {0}
+AgreesWithFiles (Some (Checks file)) s end =
+    IfSome s.library.files (λ files. (v : CheckVerdict) → IsCheckVerdict files file v → AgreesCheck v s end)
 
 -- the names of the buses that the bench file of this name plans
 abbrev pub plan_names : List PlannedBus → List (List ℕ)

@@ -2,19 +2,24 @@
 
 ghost use Rattle.std.specs.Prelude.{◌≡◌, ℕ, List};
 ghost use Rattle.bench_inputs.specs.Asking.{Files};
+ghost use Rattle.bench_loader.specs.Checking.{CheckVerdict, IsCheckVerdict};
 ghost use Rattle.bench_loader.specs.Verdict.{Run, Verdict, decodes, IsVerdict};
 ghost use Rattle.bench_server.specs.declared.status.Status.{Status};
 ghost use Rattle.bench_server.specs.Outcomes.{Seen, EndsDecode};
 ghost use Rattle.bench_server.specs.Tool.{Agrees, NothingFailed, IsWhole};
 
-use bench_loader::one_verdict;
+use bench_loader::{one_check, one_verdict};
 
-/// The files of a bench decide between one text and one refusal: they have one verdict.
+/// The files of a bench decide between one text and one refusal: they have one verdict. So has a file that is checked.
 pub fn one_end()
     ensures some { (files : Files) (bench : List ℕ) → (v : Verdict) × IsVerdict files bench v }
     ensures one { (files : Files) (bench : List ℕ) (v w : Verdict) → IsVerdict files bench v → IsVerdict files bench w → v ≡ w }
+    ensures some_check { (files : Files) (file : List ℕ) → (v : CheckVerdict) × IsCheckVerdict files file v }
+    ensures one_check { (files : Files) (file : List ℕ) (v w : CheckVerdict) → IsCheckVerdict files file v
+        → IsCheckVerdict files file w → v ≡ w }
 {
     one_verdict();
+    one_check();
 }
 
 /// Where the files decide that logs are decoded and nothing of the outside failed, the run is whole, unless memory ran

@@ -15,14 +15,11 @@ mod refusals;
 /// A file by its name.
 type File<'a> = (&'a str, &'a [u8]);
 
-/// The words and the files of a run, and what it leaves.
+/// The words and the files of a run.
 #[derive(Clone, Copy)]
 struct Case<'a> {
     words: &'a [&'a str],
     files: &'a [File<'a>],
-    code: u8,
-    out: &'a [u8],
-    err: &'a [u8],
 }
 
 /// How the outside of a run behaves.
@@ -32,8 +29,8 @@ struct Outside<'a> {
     step: usize,
     /// The calls of the library that fail, counted from 0.
     library: &'a [u64],
-    /// The reads that fail of the logs whose names are these.
-    reads: &'a [(&'a str, u64)],
+    /// The read that fails of the log of this name.
+    read: Option<(&'static str, u64)>,
     /// The writes of the output that fail.
     writes: &'a [u64],
     /// How many bytes the output takes.
@@ -56,21 +53,18 @@ struct Left {
 const QUIET: Outside<'static> = Outside {
     step: 64,
     library: &[],
-    reads: &[],
+    read: None,
     writes: &[],
     room: 4096,
     lines: &[],
 };
 
 /// The failing reads of the file of this name.
-fn fails_of(alloc: Global, reads: &[(&str, u64)], name: &str) -> Result<Vec<u64>, AllocError> {
-    let mut fails = Vec::new(alloc);
-    for (log, read) in reads {
-        if *log == name {
-            fails.push(*read)?;
-        }
+fn fails_of(alloc: Global, read: Option<(&str, u64)>, name: &str) -> Result<Vec<u64>, AllocError> {
+    match read {
+        Some((log, call)) if log == name => Vec::from_slice(alloc, &[call]),
+        Some(_) | None => Ok(Vec::new(alloc)),
     }
-    Ok(fails)
 }
 
 fn files_of(
@@ -86,7 +80,7 @@ fn files_of(
             name: String::from_str(alloc, name)?,
             content: Vec::from_slice(alloc, content)?,
             step: outside.step,
-            fails: fails_of(alloc, outside.reads, name)?,
+            fails: fails_of(alloc, outside.read, name)?,
         })?;
     }
     Ok(made)
@@ -130,19 +124,28 @@ fn run(
     })
 }
 
-/// The run ends so, with so many logs handed back.
+/// The exit status, the output and the error line of a run, and how many logs were handed back.
+#[derive(Clone, Copy)]
+struct End<'a> {
+    code: u8,
+    out: &'a [u8],
+    err: &'a [u8],
+    logs: usize,
+}
+
+/// The run ends so.
 fn ends(
     rt: &impl Abort,
     alloc: Global,
     case: &Case<'_>,
     outside: &Outside<'_>,
-    logs: usize,
+    end: &End<'_>,
 ) -> Result<(), AllocError> {
     let left = run(rt, alloc, case, outside)?;
-    assert_eq!(rt; left.status.code(), case.code);
-    assert_eq!(rt; left.out.as_slice(), case.out);
-    assert_eq!(rt; left.err.as_slice(), case.err);
-    assert_eq!(rt; left.logs, logs);
+    assert_eq!(rt; left.status.code(), end.code);
+    assert_eq!(rt; left.out.as_slice(), end.out);
+    assert_eq!(rt; left.err.as_slice(), end.err);
+    assert_eq!(rt; left.logs, end.logs);
     Ok(())
 }
 
@@ -155,9 +158,6 @@ fn each_decodes(rt: &impl Abort, alloc: Global, rows: &[Decoded]) -> Result<(), 
         let case = Case {
             words: DECODE,
             files,
-            code: 0,
-            out,
-            err: b"",
         };
         let left = run(rt, alloc, &case, &QUIET)?;
         assert_eq!(rt; left.status.code(), 0);
@@ -185,11 +185,8 @@ const SPEED: File<'static> = (
 const SPEED_TEXT: &[u8] =
     b"start A 0\nm A 0 0 1000000 Engine\ns Speed 4000 8000 \"rpm\"\nend A 1\n";
 
-/// That frame, decoded.
+/// That frame, which is to be decoded.
 const CLASSIC: Case<'static> = Case {
     words: DECODE,
     files: &[CAN, SPEED, FRAME],
-    code: 0,
-    out: SPEED_TEXT,
-    err: b"",
 };

@@ -19,7 +19,7 @@ use crate::refused::{decode_status, plan_status};
 use crate::report::report;
 use bench_file::limits_of_a_plan;
 use bench_inputs::read_bench;
-use bench_loader::one_verdict;
+use bench_loader::{one_check, one_verdict};
 use multiplex_tree::List;
 use port_io::{Library, Sink};
 use std::alloc::Global;
@@ -133,6 +133,7 @@ pub fn run_tool<B: Library, K: Sink, E: Sink>(
         (sink_told (K.written out.old) (K.write_faults out.old)) (sink_told (K.written out.new) (K.write_faults out.new)) []) }
 {
     one_verdict();
+    one_check();
     let mut logs = Vec::new(alloc);
     let status = run(alloc, words, library, out, err, &mut logs);
     Ran {

@@ -65,14 +65,14 @@ fn a_file_is_counted_or_refused(rt: HostRuntime) -> Result<(), Fail> {
 
 fn each_is_checked(rt: &impl Abort, alloc: Global, rows: &[Checked]) -> Result<(), AllocError> {
     for (words, files, code, out, err) in rows {
-        let case = Case {
-            words,
-            files,
+        let case = Case { words, files };
+        let end = End {
             code: *code,
             out,
             err,
+            logs: 0,
         };
-        ends(rt, alloc, &case, &QUIET, 0)?;
+        ends(rt, alloc, &case, &QUIET, &end)?;
     }
     Ok(())
 }

@@ -2,7 +2,7 @@
 
 use super::*;
 
-/// A bench of two buses and its text.
+/// A bench of two buses.
 const TWO: Case<'static> = Case {
     words: DECODE,
     files: &[
@@ -11,9 +11,6 @@ const TWO: Case<'static> = Case {
         FRAME,
         ("b.log", b"(1.000000) can0 101#A0\n"),
     ],
-    code: 0,
-    out: TWO_TEXT,
-    err: b"",
 };
 
 const TWO_TEXT: &[u8] = b"start A 0\n\
@@ -26,6 +23,16 @@ const TWO_TEXT: &[u8] = b"start A 0\n\
 
 /// A call that fails, counted from 0, and how the run then ends: status, output, error line, logs handed back.
 type Failing = (u64, u8, &'static [u8], &'static [u8], usize);
+
+fn end_of(row: &Failing) -> End<'static> {
+    let (_, code, out, err, logs) = *row;
+    End {
+        code,
+        out,
+        err,
+        logs,
+    }
+}
 
 /// The calls of the library: begin and twice more for the bench file, begin and three times more for the database, a
 /// log, another, and one that is not made.
@@ -41,38 +48,31 @@ const LIBRARY_CALLS: &[Failing] = &[
     (9, 0, TWO_TEXT, b"", 2),
 ];
 
-#[test]
-fn each_call_of_the_library_fails_in_turn(rt: HostRuntime) -> Result<(), Fail> {
-    fail_in_the_library(&rt, rt.alloc(), LIBRARY_CALLS)?;
-    Ok(())
-}
-
-fn fail_in_the_library(rt: &impl Abort, alloc: Global, rows: &[Failing]) -> Result<(), AllocError> {
-    for (call, code, out, err, logs) in rows {
+fn fail_in_the_library(
+    rt: &impl Abort,
+    alloc: Global,
+    case: &Case<'static>,
+    rows: &[Failing],
+) -> Result<(), AllocError> {
+    for row in rows {
         let outside = Outside {
-            library: &[*call],
+            library: &[row.0],
             ..QUIET
         };
-        ends(
-            rt,
-            alloc,
-            &Case {
-                code: *code,
-                out,
-                err,
-                ..TWO
-            },
-            &outside,
-            *logs,
-        )?;
+        ends(rt, alloc, case, &outside, &end_of(row))?;
     }
     Ok(())
 }
 
-const FIRST_TEXT: &[u8] =
-    b"start A 0\nm A 0 0 1000000 Engine\ns Speed 4000 8000 \"rpm\"\nend A 1\n";
+#[test]
+fn each_call_of_the_library_fails_in_turn(rt: HostRuntime) -> Result<(), Fail> {
+    fail_in_the_library(&rt, rt.alloc(), &TWO, LIBRARY_CALLS)?;
+    Ok(())
+}
 
-const FIRST_FRAME: &[u8] = b"start A 0\nm A 0 0 1000000 Engine\ns Speed 4000 8000 \"rpm\"\n";
+const FIRST_FRAME: &[u8] = b"start A 0\n\
+      m A 0 0 1000000 Engine\n\
+      s Speed 4000 8000 \"rpm\"\n";
 
 const SECOND_FRAME: &[u8] = b"start A 0\n\
       m A 0 0 1000000 Engine\n\
@@ -90,7 +90,7 @@ const FIRST_READS: &[Failing] = &[
 
 /// The reads of the second log.
 const SECOND_READS: &[Failing] = &[
-    (0, 6, FIRST_TEXT, b"read B\n", 2),
+    (0, 6, SPEED_TEXT, b"read B\n", 2),
     (1, 6, SECOND_FRAME, b"read B\n", 2),
     (2, 0, TWO_TEXT, b"", 2),
 ];
@@ -98,26 +98,15 @@ const SECOND_READS: &[Failing] = &[
 fn fail_in_a_log(
     rt: &impl Abort,
     alloc: Global,
-    log: &str,
+    log: &'static str,
     rows: &[Failing],
 ) -> Result<(), AllocError> {
-    for (call, code, out, err, logs) in rows {
+    for row in rows {
         let outside = Outside {
-            reads: &[(log, *call)],
+            read: Some((log, row.0)),
             ..QUIET
         };
-        ends(
-            rt,
-            alloc,
-            &Case {
-                code: *code,
-                out,
-                err,
-                ..TWO
-            },
-            &outside,
-            *logs,
-        )?;
+        ends(rt, alloc, &TWO, &outside, &end_of(row))?;
     }
     Ok(())
 }
@@ -129,37 +118,32 @@ fn a_log_that_fails_ends_the_text_behind_its_lines(rt: HostRuntime) -> Result<()
     Ok(())
 }
 
-/// Runs in which the write of a byte fails, and in which there is no room for it.
-fn fail_at_each_byte(
-    rt: &impl Abort,
-    alloc: Global,
-    text: &'static [u8],
-) -> Result<(), AllocError> {
-    for count in 0..text.len() {
-        let case = Case {
-            code: 7,
-            out: &text[..count],
-            err: b"write\n",
-            ..CLASSIC
-        };
-        let failing = Outside {
-            step: 1,
-            writes: &[count as u64],
-            ..QUIET
-        };
-        ends(rt, alloc, &case, &failing, 1)?;
-        let full = Outside {
-            room: count,
-            ..QUIET
-        };
-        ends(rt, alloc, &case, &full, 1)?;
-    }
-    Ok(())
+/// The run in which the write behind this text fails, and that in which there is no room for more.
+fn fail_behind(rt: &impl Abort, alloc: Global, text: &'static [u8]) -> Result<(), AllocError> {
+    let end = End {
+        code: 7,
+        out: text,
+        err: b"write\n",
+        logs: 1,
+    };
+    let failing = Outside {
+        step: 1,
+        writes: &[text.len() as u64],
+        ..QUIET
+    };
+    ends(rt, alloc, &CLASSIC, &failing, &end)?;
+    let full = Outside {
+        room: text.len(),
+        ..QUIET
+    };
+    ends(rt, alloc, &CLASSIC, &full, &end)
 }
 
 #[test]
 fn each_write_fails_in_turn(rt: HostRuntime) -> Result<(), Fail> {
-    fail_at_each_byte(&rt, rt.alloc(), SPEED_TEXT)?;
+    for count in 0..SPEED_TEXT.len() {
+        fail_behind(&rt, rt.alloc(), &SPEED_TEXT[..count])?;
+    }
     Ok(())
 }
 
@@ -176,24 +160,13 @@ fn fail_in_the_error_output(
     alloc: Global,
     rows: &[Failing],
 ) -> Result<(), AllocError> {
-    for (call, code, out, err, logs) in rows {
+    for row in rows {
         let outside = Outside {
-            reads: &[("a.log", 0)],
-            lines: &[*call],
+            read: Some(("a.log", 0)),
+            lines: &[row.0],
             ..QUIET
         };
-        ends(
-            rt,
-            alloc,
-            &Case {
-                code: *code,
-                out,
-                err,
-                ..CLASSIC
-            },
-            &outside,
-            *logs,
-        )?;
+        ends(rt, alloc, &CLASSIC, &outside, &end_of(row))?;
     }
     Ok(())
 }
@@ -209,75 +182,40 @@ fn an_error_line_that_fails_leaves_the_status(rt: HostRuntime) -> Result<(), Fai
 fn a_fault_behind_a_line_ends_the_text_there(rt: HostRuntime) -> Result<(), Fail> {
     let outside = Outside {
         step: 46,
-        reads: &[("a.log", 1)],
+        read: Some(("a.log", 1)),
         ..QUIET
     };
-    let case = Case {
+    let end = End {
         code: 6,
         out: FIRST_FRAME,
         err: b"read A\n",
-        ..CLASSIC
+        logs: 1,
     };
-    ends(&rt, rt.alloc(), &case, &outside, 1)?;
+    ends(&rt, rt.alloc(), &CLASSIC, &outside, &end)?;
     Ok(())
 }
 
-/// The calls of a check: begin, seven reads of an engine's database and one that finds its end.
+const CHECK: Case<'static> = Case {
+    words: &["check", "a.dbc"],
+    files: &[SPEED],
+};
+
+/// The first calls of a check: begin, and a read.
+const CHECK_CALLS: &[Failing] = &[(0, 5, b"", b"open\n", 0), (1, 6, b"", b"read\n", 0)];
+
 #[test]
 fn a_check_that_fails_names_its_cause(rt: HostRuntime) -> Result<(), Fail> {
-    let alloc = rt.alloc();
-    let case = Case {
-        words: &["check", "a.dbc"],
-        files: &[SPEED],
-        ..CLASSIC
-    };
-    let opens = Outside {
-        library: &[0],
-        ..QUIET
-    };
-    ends(
-        &rt,
-        alloc,
-        &Case {
-            code: 5,
-            out: b"",
-            err: b"open\n",
-            ..case
-        },
-        &opens,
-        0,
-    )?;
-    let reads = Outside {
-        library: &[1],
-        ..QUIET
-    };
-    ends(
-        &rt,
-        alloc,
-        &Case {
-            code: 6,
-            out: b"",
-            err: b"read\n",
-            ..case
-        },
-        &reads,
-        0,
-    )?;
+    fail_in_the_library(&rt, rt.alloc(), &CHECK, CHECK_CALLS)?;
     let writes = Outside {
         writes: &[0],
         ..QUIET
     };
-    ends(
-        &rt,
-        alloc,
-        &Case {
-            code: 7,
-            out: b"",
-            err: b"write\n",
-            ..case
-        },
-        &writes,
-        0,
-    )?;
+    let end = End {
+        code: 7,
+        out: b"",
+        err: b"write\n",
+        logs: 0,
+    };
+    ends(&rt, rt.alloc(), &CHECK, &writes, &end)?;
     Ok(())
 }

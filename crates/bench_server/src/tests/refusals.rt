@@ -26,12 +26,15 @@ fn each_is_usage(rt: &impl Abort, alloc: Global, rows: &[&[&str]]) -> Result<(),
     for words in rows {
         let case = Case {
             words,
+            files: CLASSIC.files,
+        };
+        let end = End {
             code: 2,
             out: b"",
             err: USAGE_LINE,
-            ..CLASSIC
+            logs: 0,
         };
-        ends(rt, alloc, &case, &QUIET, 0)?;
+        ends(rt, alloc, &case, &QUIET, &end)?;
     }
     Ok(())
 }
@@ -44,11 +47,14 @@ fn each_is_refused(rt: &impl Abort, alloc: Global, rows: &[Refused]) -> Result<(
         let case = Case {
             words: DECODE,
             files,
+        };
+        let end = End {
             code: *code,
             out: b"",
             err,
+            logs: 0,
         };
-        ends(rt, alloc, &case, &QUIET, 0)?;
+        ends(rt, alloc, &case, &QUIET, &end)?;
     }
     Ok(())
 }
@@ -200,10 +206,13 @@ fn a_missing_log_leaves_those_before_it(rt: HostRuntime) -> Result<(), Fail> {
     let case = Case {
         words: DECODE,
         files: &[TWO, SPEED, ("b.dbc", b""), FRAME],
+    };
+    let end = End {
         code: 5,
         out: b"",
         err: b"open\n",
+        logs: 1,
     };
-    ends(&rt, rt.alloc(), &case, &QUIET, 1)?;
+    ends(&rt, rt.alloc(), &case, &QUIET, &end)?;
     Ok(())
 }
