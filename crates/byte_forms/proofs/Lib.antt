@@ -2,5 +2,4 @@ pub mod RunLaws
 pub mod PieceLaws
 pub mod LineLaws
 pub mod NumberLaws
-pub mod SignedLaws
-pub mod WordLaws
+pub mod DigitLaws

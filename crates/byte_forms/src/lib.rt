@@ -16,9 +16,9 @@ mod runs;
 pub use class::Class;
 pub use hexadecimal::{hex_of_byte, hex_of_number};
 pub use lines::next_line;
-pub use numerals::{Radix, hexadecimal_byte, number_up_to, signed_decimal};
+pub use numerals::{Radix, number_up_to};
 pub use pieces::{after_literal, field_before};
-pub use runs::{is_all, is_word, run};
+pub use runs::{is_all, run};
 
 #[cfg(test)]
 mod tests;

@@ -2,7 +2,7 @@
 
 ghost use Rattle.std.specs.Prelude.{◌≡◌, ◌≤◌, ◌++◌, length, take_while};
 ghost use Rattle.std.specs.List.{list_all, prefix_len};
-ghost use Rattle.byte_forms.specs.Classes.{is_in, is_word, drop_while};
+ghost use Rattle.byte_forms.specs.Classes.{is_in, drop_while};
 
 use crate::Class;
 
@@ -33,14 +33,4 @@ pub fn is_all(class: Class, bytes: &[u8]) -> bool
     ensures { result ≡ list_all (is_in class) bytes.now }
 {
     run_len(class, bytes) == bytes.len()
-}
-
-/// Whether the text is a Word of the DBC format.
-pub fn is_word(text: &[u8]) -> bool
-    ensures { result ≡ is_word text.now }
-{
-    match text {
-        [] => false,
-        [first, rest @ ..] => Class::WordStart.has(*first) && is_all(Class::WordByte, rest),
-    }
 }

@@ -44,45 +44,29 @@ fn numbers_are_judged_by_their_value(rt: HostRuntime) {
     assert_eq!(rt; number_up_to(Radix::Hexadecimal, 0x7ff, b"7fF"), Some(2047));
     assert_eq!(rt; number_up_to(Radix::Hexadecimal, 0x7ff, b"800"), None);
     assert_eq!(rt; number_up_to(Radix::Hexadecimal, 0x7ff, b"7g"), None);
-    assert_eq!(rt;
-        signed_decimal(b"-999999999999999999"),
-        Some(-999_999_999_999_999_999)
-    );
-    assert_eq!(rt; signed_decimal(b"007"), Some(7));
-    assert_eq!(rt; signed_decimal(b"-0"), Some(0));
-    assert_eq!(rt; signed_decimal(b"1000000000000000000"), None);
-    assert_eq!(rt; signed_decimal(b"-"), None);
-    assert_eq!(rt; signed_decimal(b"--1"), None);
-    assert_eq!(rt; signed_decimal(b"+1"), None);
-    assert!(rt; matches!(hexadecimal_byte(b"fA1"), Some((250, b"1"))));
-    assert!(rt; hexadecimal_byte(b"f").is_none());
-    assert!(rt; hexadecimal_byte(b"fg").is_none());
 }
 
-/// A byte, and whether each class of this list has it: those for words, texts and digits.
-const BYTES: [(u8, [bool; 6]); 12] = [
-    // word start, word byte, graphic, string byte, decimal digit, hexadecimal digit
-    (0x09, [false, false, false, false, false, false]),
-    (b' ', [false, false, false, true, false, false]),
-    (b'!', [false, false, true, true, false, false]),
-    (b'"', [false, false, true, false, false, false]),
-    (b'\\', [false, false, true, false, false, false]),
-    (b'_', [true, true, true, true, false, false]),
-    (b'0', [false, true, true, true, true, true]),
-    (b'f', [true, true, true, true, false, true]),
-    (b'G', [true, true, true, true, false, false]),
-    (b'~', [false, false, true, true, false, false]),
-    (0x7f, [false, false, false, false, false, false]),
-    (0xc2, [false, false, false, false, false, false]),
+/// A byte, and whether each class of this list has it: those for words and digits.
+const BYTES: [(u8, [bool; 3]); 12] = [
+    // word byte, decimal digit, hexadecimal digit
+    (0x09, [false, false, false]),
+    (b' ', [false, false, false]),
+    (b'!', [false, false, false]),
+    (b'"', [false, false, false]),
+    (b'\\', [false, false, false]),
+    (b'_', [true, false, false]),
+    (b'0', [true, true, true]),
+    (b'f', [true, false, true]),
+    (b'G', [true, false, false]),
+    (b'~', [false, false, false]),
+    (0x7f, [false, false, false]),
+    (0xc2, [false, false, false]),
 ];
 
 #[test]
 fn pieces_are_taken_from_the_front(rt: HostRuntime) {
-    for (byte, [start, word, graphic, string, decimal, hexadecimal]) in BYTES {
-        assert_eq!(rt; Class::WordStart.has(byte), start);
+    for (byte, [word, decimal, hexadecimal]) in BYTES {
         assert_eq!(rt; Class::WordByte.has(byte), word);
-        assert_eq!(rt; Class::Graphic.has(byte), graphic);
-        assert_eq!(rt; Class::StringByte.has(byte), string);
         assert_eq!(rt; Class::DecimalDigit.has(byte), decimal);
         assert_eq!(rt; Class::HexadecimalDigit.has(byte), hexadecimal);
     }
@@ -95,8 +79,5 @@ fn pieces_are_taken_from_the_front(rt: HostRuntime) {
         )
     );
     assert!(rt; field_before(Class::DecimalDigit, b"|", b"12 |3").is_none());
-    assert!(rt; matches!(run(Class::Space, b"  a "), (b"  ", b"a ")));
-    assert!(rt; is_word(b"_a1"));
-    assert!(rt; !is_word(b"1a"));
-    assert!(rt; !is_word(b""));
+    assert!(rt; matches!(run(Class::DecimalDigit, b"12a3"), (b"12", b"a3")));
 }

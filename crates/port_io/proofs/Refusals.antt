@@ -1,25 +1,16 @@
--- What the calls that read to the end answer where a chunk was not kept.
+-- What `read_whole` answers where a chunk was not kept.
 use Rattle.std.proofs.Common.{◌≡◌, ◌↔◌, ℕ, ◌+◌, ◌<◌, List, ◌++◌, length, Option, Result, Err, Vec, refl, ◌∙◌, ap, subst, arith, length-append}
 use Rattle.std.specs.Prelude.{IsErrOf}
 use Rattle.std.specs.declared.alloc.Global.{Global}
-use Rattle.std.specs.Io.KnownBytes.{prepend_known, append_known}
+use Rattle.std.specs.Io.KnownBytes.{prepend_known}
 use Rattle.port_io.specs.declared.whole.Overrun.{Overrun}
 use Rattle.port_io.specs.declared.whole.Overrun.TheVariants as overrun
 use Rattle.port_io.specs.declared.whole.WholeRefused.{WholeRefused}
 use Rattle.port_io.specs.declared.whole.WholeRefused.TheVariants as whole
-use Rattle.port_io.specs.declared.whole.SourceRefused.{SourceRefused}
-use Rattle.port_io.specs.declared.whole.SourceRefused.TheVariants as source
 use Rattle.port_io.specs.Library.{OpensFile}
-use Rattle.port_io.specs.Overrun.{whole_refused_of, source_refused_of}
-use Rattle.port_io.specs.Transfers.{Moves, AnswersTaken}
-use Rattle.port_io.proofs.Known.{append_known-append, prepend_known-prepend}
-
--- one more chunk moved
-pub moves_more : (left was now taken had has : Option (List ℕ)) (moved chunk : List ℕ) → Moves left was taken had moved → was ≡ prepend_known chunk now → has ≡ append_known had chunk → Moves left now taken has (moved ++ chunk)
-moves_more left was now taken had has moved chunk moves left_fewer taken_more = record {
-  left_fewer = moves.left_fewer ∙ ap (prepend_known moved) left_fewer ∙ prepend_known-prepend now moved chunk;
-  taken_more = taken_more ∙ ap (λ (o : Option (List ℕ)). append_known o chunk) moves.taken_more ∙ append_known-append taken moved chunk;
-}
+use Rattle.port_io.specs.Overrun.{whole_refused_of}
+use Rattle.port_io.specs.Transfers.{AnswersTaken}
+use Rattle.port_io.proofs.Known.{prepend_known-prepend}
 
 -- one more chunk of the file that was opened
 pub opens_more : (files : Option (List (List ℕ × List ℕ))) (name : List ℕ) (was now : Option (List ℕ)) (moved chunk : List ℕ) → OpensFile files name (prepend_known moved was) → was ≡ prepend_known chunk now → OpensFile files name (prepend_known (moved ++ chunk) now)
@@ -30,12 +21,6 @@ opens_more files name was now moved chunk opens left_fewer =
 refused : {E : Type 0} (limit : ℕ) (moved : List ℕ) (long refusal : E) (result : Result (Vec ℕ Global) E) → result ≡ Err refusal → (refusal ≡ long) ↔ (limit < length moved) → AnswersTaken limit moved long result
 refused limit moved long refusal result is_err exactly =
     rw is_err (record { bytes = tt; within = tt; too_long = (λ e. exactly.0 (cc), λ more. ap (λ r. Err r) (exactly.1 more)) })
-
-pub refused_source : (limit : ℕ) (moved : List ℕ) (why : Overrun) (refusal : SourceRefused) (result : Result (Vec ℕ Global) SourceRefused) → result ≡ Err refusal → refusal ≡ source_refused_of why → (why ≡ overrun.Long) ↔ (limit < length moved) → AnswersTaken limit moved source.Long result
-refused_source limit moved overrun.Long refusal result is_err is exactly =
-    refused limit moved source.Long refusal result is_err (λ _. exactly.0 refl, λ _. is)
-refused_source limit moved overrun.Memory refusal result is_err is exactly =
-    refused limit moved source.Long refusal result is_err (λ e. absurd (cc), λ more. absurd (let e = exactly.1 more in cc))
 
 pub refused_whole : (limit : ℕ) (moved : List ℕ) (why : Overrun) (refusal : WholeRefused) (result : Result (Vec ℕ Global) WholeRefused) → result ≡ Err refusal → refusal ≡ whole_refused_of why → (why ≡ overrun.Long) ↔ (limit < length moved) → AnswersTaken limit moved whole.Long result
 refused_whole limit moved overrun.Long refusal result is_err is exactly =

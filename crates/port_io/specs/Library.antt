@@ -15,7 +15,8 @@ OpensFile None name bytes = bytes ≡ None
 OpensFile (Some files) name bytes = (named files name ≡ bytes) × IsSome bytes
 
 -- a log that was just opened: its bytes left are the named file's, none were taken, no read has failed or said the end
-pub record IsFreshLog (files : Option (List (List ℕ × List ℕ))) (name : List ℕ) (left taken : Option (List ℕ)) (read_faults : ℕ) (ended : Bool) : Type 0 where
+pub record IsFreshLog (files : Option (List (List ℕ × List ℕ))) (name : List ℕ)
+    (left taken : Option (List ℕ)) (read_faults : ℕ) (ended : Bool) : Type 0 where
   pub bytes : OpensFile files name left
   pub none_taken : taken ≡ option_map (λ _. []) left
   pub no_faults : read_faults ≡ 0

@@ -72,7 +72,8 @@ pub record GivesMemory {E : Type 0} (before now : MemoryLibrary) (result : Resul
   pub after : now ≡ after_more before result
 
 -- What `log` does: it fails where the file can't be opened, and else gives an unread log over it.
-pub record OpensMemory {L E : Type 0} (reader_of : L → MemoryReader) (before now : MemoryLibrary) (name : List ℕ) (result : Result L E) : Type 0 where
+pub record OpensMemory {L E : Type 0} (reader_of : L → MemoryReader) (before now : MemoryLibrary) (name : List ℕ)
+    (result : Result L E) : Type 0 where
   pub fails : IsErr result ↔ CannotOpen before name
   pub reader : IfOk result (λ log. option_map unread_file (file_named before.files name) ≡ Some (reader_of log))
   pub after : now ≡ after_open before name (is_ok result)

@@ -40,7 +40,7 @@ pub use real_files::{FileLibrary, FileSource};
 pub use real_streams::{ErrSink, OutSink};
 pub use sink::Sink;
 pub use source::{Failed, Source};
-pub use whole::{SourceRefused, WholeRefused, read_source, read_whole};
+pub use whole::{WholeRefused, read_whole};
 
 #[cfg(test)]
 mod tests;

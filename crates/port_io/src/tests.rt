@@ -96,29 +96,33 @@ fn a_file_is_read_whole_within_its_limit(rt: HostRuntime) -> Result<(), Fail> {
     Ok(())
 }
 
+/// All that a source has left, by reads of two bytes, and whether one failed.
+fn read_all<S: Source>(source: &mut S, bytes: &mut Vec<u8>) -> Result<bool, AllocError> {
+    let mut buf = [0u8; 2];
+    for _ in 0..100 {
+        match source.read(&mut buf) {
+            Ok(0) => return Ok(false),
+            Ok(count) => bytes.extend_from_slice(&buf[..count])?,
+            Err(Failed) => return Ok(true),
+        }
+    }
+    Ok(false)
+}
+
 #[test]
-fn a_log_is_read_to_its_end(rt: HostRuntime) -> Result<(), Fail> {
+fn a_log_gives_its_bytes_up_to_a_failing_read(rt: HostRuntime) -> Result<(), Fail> {
     let alloc = rt.alloc();
     let files = [
         file(alloc, "a", b"log", 1, &[])?,
         file(alloc, "b", b"broken", 4, &[1])?,
     ];
-    // The name, the limit; the answer.
-    let cases: [(&str, usize, Result<&[u8], SourceRefused>); 4] = [
-        ("a", 3, Ok(b"log")),
-        ("a", 2, Err(SourceRefused::Long)),
-        ("b", 9, Err(SourceRefused::Read)),
-        ("b", 3, Err(SourceRefused::Long)),
-    ];
     let mut library = MemLibrary::new(&files, Vec::new(alloc));
-    for (name, limit, answer) in cases {
+    let cases: [(&str, &[u8], bool); 2] = [("a", b"log", false), ("b", b"br", true)];
+    for (name, wanted, fails) in cases {
+        let mut bytes = Vec::new(alloc);
         let mut log = library.log(name).expect(&rt, "it is there");
-        let whole = read_source(alloc, &mut log, limit);
-        match (&whole, answer) {
-            (Ok(bytes), Ok(wanted)) => assert_eq!(rt; bytes.as_slice(), wanted),
-            (Err(why), Err(wanted)) => assert_eq!(rt; *why, wanted),
-            _ => panic!(rt; "{name} within {limit}: {whole:?}"),
-        }
+        assert_eq!(rt; read_all(&mut log, &mut bytes)?, fails);
+        assert_eq!(rt; bytes.as_slice(), wanted);
     }
     Ok(())
 }
@@ -165,11 +169,10 @@ fn a_log_of_the_system_is_read_to_its_end(rt: HostRuntime) -> Result<(), Fail> {
     fs::write(&rt, path, b"on disk".as_slice())?;
     let log = FileLibrary::new(rt).log(path);
     fs::remove_file(&rt, path)?;
-    let bytes = read_source(rt.alloc(), &mut log.expect(&rt, "there"), 7);
-    assert_eq!(rt;
-        bytes.expect(&rt, "whole").as_slice(),
-        b"on disk".as_slice()
-    );
+    let mut bytes = Vec::new(rt.alloc());
+    let failed = read_all(&mut log.expect(&rt, "there"), &mut bytes)?;
+    assert!(rt; !failed);
+    assert_eq!(rt; bytes.as_slice(), b"on disk".as_slice());
     Ok(())
 }
 
@@ -189,7 +192,7 @@ fn the_standard_error_takes_a_piece(rt: HostRuntime) {
     );
 }
 
-fn sends<T: Send>() {}
+fn sends<T: Send + Drop>() {}
 
 #[test]
 fn all_may_go_to_another_thread() {

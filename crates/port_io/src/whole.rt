@@ -1,11 +1,11 @@
-//! Reading a file or a log whole.
-ghost use Rattle.std.specs.Prelude.{◌≡◌, ◌+◌, ◌<◌, ◌≤◌, ◌↔◌, ◌++◌, List, ℕ, true, false, is_ok, if◌then◌else◌, length, vec_len, Some, IfOk, OnOk, OnErr, IfSome, IsErrOf};
+//! Reading a file whole.
+ghost use Rattle.std.specs.Prelude.{◌≡◌, ◌+◌, ◌<◌, ◌≤◌, ◌↔◌, ◌++◌, List, ℕ, false, length, vec_len, Some, IfOk, OnOk, OnErr, IfSome, IsErrOf};
 ghost use Rattle.std.specs.Io.KnownBytes.{prepend_known};
 ghost use Rattle.port_io.specs.Causes.{Explains};
 ghost use Rattle.port_io.specs.Library.{named, OpensFile, strays_after};
-ghost use Rattle.port_io.specs.Transfers.{Moves, AnswersTaken};
+ghost use Rattle.port_io.specs.Transfers.{AnswersTaken};
 
-use crate::{Library, Source};
+use crate::Library;
 use std::alloc::Global;
 use thiserror::Error;
 
@@ -29,20 +29,6 @@ pub enum WholeRefused {
     Memory,
 }
 
-/// Why a source was not read to its end.
-#[derive(Clone, Copy, Debug, PartialEq, Eq, Error)]
-pub enum SourceRefused {
-    /// A read failed.
-    #[error("the source could not be read")]
-    Read,
-    /// It had more bytes left than the limit.
-    #[error("the source is too long")]
-    Long,
-    /// There was no memory for its bytes.
-    #[error("out of memory")]
-    Memory,
-}
-
 /// Why a chunk was not kept.
 #[derive(Clone, Copy)]
 enum Overrun {
@@ -59,19 +45,6 @@ impl From<Overrun> for WholeRefused {
         match overrun {
             Overrun::Long => WholeRefused::Long,
             Overrun::Memory => WholeRefused::Memory,
-        }
-    }
-}
-
-impl From<Overrun> for SourceRefused {
-    ghost use Rattle.port_io.specs.Overrun.{source_refused_of};
-
-    ghost from_gives = { λ overrun refused. refused ≡ source_refused_of overrun };
-
-    fn from(overrun: Overrun) -> SourceRefused {
-        match overrun {
-            Overrun::Long => SourceRefused::Long,
-            Overrun::Memory => SourceRefused::Memory,
         }
     }
 }
@@ -130,39 +103,6 @@ pub fn read_whole<B: Library>(
     loop {
         let Ok(count) = library.more(&mut chunk) else {
             return Err(WholeRefused::Read);
-        };
-        if count == 0 {
-            return Ok(bytes);
-        }
-        keep_chunk(&mut bytes, &chunk[..count], limit)?;
-    }
-}
-
-/// Reads the source to its end: the bytes left, where they are at most `limit`.
-pub fn read_source<S: Source>(
-    alloc: Global,
-    source: &mut S,
-    limit: usize,
-) -> Result<Vec<u8>, SourceRefused>
-    ensures whole { IfOk result (λ bytes. IfSome (S.left source.old) (λ left. bytes.items ≡ left)) }
-
-    // The bytes taken were the first of those left, and `Long` comes exactly where they are more
-    // than `limit`.
-    ensures taken { (moved : List ℕ)
-        × Moves (S.left source.old) (S.left source.new)
-        (S.taken source.old) (S.taken source.new) moved
-        × AnswersTaken limit moved SourceRefused.Long result }
-    ensures ended { S.ended source.new ≡ (if is_ok result then true else S.ended source.old) }
-
-    ensures read_cause { Explains (S.read_faults source.old) (S.read_faults source.new)
-        (IsErrOf result SourceRefused.Read) }
-    ensures other { S.other source.new ≡ S.other source.old }
-{
-    let mut bytes = Vec::new(alloc);
-    let mut chunk = [0u8; CHUNK];
-    loop {
-        let Ok(count) = source.read(&mut chunk) else {
-            return Err(SourceRefused::Read);
         };
         if count == 0 {
             return Ok(bytes);
