@@ -1,11 +1,13 @@
 -- What decimal digits spell, and how many there are.
 use Rattle.std.proofs.Common.{◌≡◌, ℕ, zero, suc, ◌+◌, ◌-◌, ◌*◌, ◌/◌, ◌%◌, ◌^◌, ◌<◌, ◌≤◌, List, [], ◌∷◌, ◌++◌, length, cond, map, replicate, get_or, sym, ap, ◌∙◌, subst, refl, ⊎_elim, arith, append_assoc, length-append, mul-le-mul_right, pow-suc, zero-mul, zero-add, add-zero, mod-eq_of_lt, add-one}
 use Rattle.std.specs.Int.Digits.{digits_of}
+use Rattle.std.specs.Fmt.{decimal}
 use Rattle.std.proofs.Math.Nat.{div-add-mod', div-eq_of_lt, pow-zero}
 use Rattle.std.proofs.lemmas.Nat.{pow-add, le-div, mod_below}
 use Rattle.std.proofs.lemmas.Int.Digits.{digits_of_step, length-digits_of-le, first_digits_of}
 use Rattle.std.proofs.lemmas.Bool.{cases_lt}
 use Rattle.std.proofs.lemmas.List.{map-append, append-nil, length-map}
+use Rattle.std.proofs.lemmas.Fmt.{decimal_by_steps_wide}
 use Rattle.std.proofs.lemmas.Grind.{replicate_next}
 use borrow.Author.Tests.{ne_eqb}
 use Rattle.exact_scale.specs.Digits.{IsDigit, AllDigits, number, decimal_digits, last_digits}
@@ -59,6 +61,12 @@ pub decimal_digits_step : (n : ℕ) → 10 ≤ n → decimal_digits n ≡ decima
 decimal_digits_step n large =
     digits_step n (omega arith)
     ∙ ap (λ digits. digits ++ (48 + n % 10) ∷ []) (sym (from_digits_of (n / 10) (omega arith)))
+
+-- std's `decimal` has the same digits
+pub decimal_same : (n : ℕ) → n < 10 ^ 64 → decimal n ≡ decimal_digits n
+decimal_same =
+    decimal_by_steps_wide (λ m digits. digits ≡ decimal_digits m) (λ m small. sym (decimal_digits_small m small))
+    (λ m digits large front. ap (λ ds. ds ++ (48 + m % 10) ∷ []) front ∙ sym (decimal_digits_step m large))
 
 low_front : (places n : ℕ) → 10 ^ suc places ≤ n → 10 ^ places ≤ n / 10
 low_front places n low = le-div (10 ^ places) n 10 (omega arith) (omega (arith, pow-suc 10 places))

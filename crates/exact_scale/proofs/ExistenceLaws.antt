@@ -1,11 +1,11 @@
 -- Each text is a decimal text or is none, and one that is denotes a decimal.
-use Rattle.std.proofs.Common.{◌≡◌, ℕ, zero, suc, ◌+◌, ◌-◌, ◌*◌, ◌^◌, ◌<◌, ◌≤◌, ◌⊎◌, inl, inr, Bool, true, false, List, [], ◌∷◌, ◌++◌, length, Option, Some, None, sym, ap, ◌∙◌, subst, refl, ⊎_elim, arith, ℤ}
+use Rattle.std.proofs.Common.{◌≡◌, ℕ, ◌+◌, ◌-◌, ◌*◌, ◌^◌, ◌<◌, ◌≤◌, ◌⊎◌, inl, inr, Bool, true, false, List, [], ◌∷◌, ◌++◌, length, None, sym, ap, ◌∙◌, refl, ⊎_elim, arith, ℤ}
 use Rattle.std.specs.Prelude.{unsigned_abs}
 use Rattle.std.proofs.lemmas.Bool.{cases_eq, cases_lt}
 use Rattle.exact_scale.specs.Digits.{IsDigit, number}
 use Rattle.exact_scale.specs.Limits.{most_places, IsNarrow, IsTooWide}
 use Rattle.exact_scale.specs.Parts.{NoDigitFirst, SignSplit, DigitSplit, PointSplit, ExponentRead, NoExponent, SignedRead, NoSigned, capped}
-use Rattle.exact_scale.specs.Spelling.{NoSign, Plus, Minus, signed, Spelling, fraction_digits, Spells, IsDecimalText, Denotes, raised, lowered}
+use Rattle.exact_scale.specs.Spelling.{NoSign, Plus, Minus, signed, fraction_digits, IsDecimalText, Denotes, raised, lowered}
 use Rattle.exact_scale.proofs.LeastLaws.{least_places, least_signed}
 use Rattle.exact_scale.proofs.PartsLaws.{point_taken, no_point, signed_down, signed_up, no_signed, exponent_read, no_exponent_after, no_exponent_other, has_parts, no_digits, bad_exponent}
 use Rattle.exact_scale.proofs.PowerLaws.{ten_times}

@@ -16,7 +16,7 @@ abbrev pub number : List ℕ → ℕ
 number [] = 0
 number (digit ∷ digits) = (digit - 48) * 10 ^ length digits + number digits
 
--- a number's digits without leading zeros, and `0` for 0
+-- a number's digits without leading zeros, and `0` for 0, as std's `decimal` has them of numbers below 10^64
 abbrev pub decimal_digits : ℕ → List ℕ
 decimal_digits n = if n == 0 then (48 ∷ []) else map (λ digit. 48 + digit) (digits_of 10 n)
 

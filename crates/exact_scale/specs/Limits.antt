@@ -1,5 +1,5 @@
 -- The limits of a scaling, and those of a raw value.
-use Rattle.std.specs.Prelude.{ℕ, List, ◌^◌, ◌-◌, ◌<◌, ◌≤◌, ◌⊎◌, ℤ, pos, neg_ℤ, ◌*ℤ◌, ◌<ℤ◌, ◌≤ℤ◌, unsigned_abs}
+use Rattle.std.specs.Prelude.{ℕ, List, ◌^◌, ◌-◌, ◌<◌, ◌≤◌, ◌⊎◌, ℤ, pos, neg_ℤ, ◌*ℤ◌, ◌≤ℤ◌, unsigned_abs}
 use Rattle.exact_scale.specs.declared.scaling.Scale.{Scale}
 use Rattle.exact_scale.specs.Spelling.{Denotes}
 
@@ -35,6 +35,13 @@ pub record DenotesTooWide (text : List ℕ) : Type 0 where
 abbrev pub numerator_over : ℕ → ℤ → ℕ → ℤ
 numerator_over to n k = n *ℤ pos (10 ^ (to - k))
 
+-- the size of the least raw value, which is below 0, and the greatest raw value
+abbrev pub least_raw_size : ℕ
+least_raw_size = 2 ^ 63
+
+abbrev pub greatest_raw : ℕ
+greatest_raw = 2 ^ 64 - 1
+
 -- the values of a signal of at most 64 bits, signed or not
 abbrev pub IsRawValue : ℤ → Type 0
-IsRawValue raw = (neg_ℤ (pos (2 ^ 63)) ≤ℤ raw) × (raw <ℤ pos (2 ^ 64))
+IsRawValue raw = (neg_ℤ (pos least_raw_size) ≤ℤ raw) × (raw ≤ℤ pos greatest_raw)

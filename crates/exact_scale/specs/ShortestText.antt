@@ -41,5 +41,7 @@ pub record IsShortestText (text : List ℕ) (n : ℤ) (k : ℕ) : Type 0 where
   pub no_plus : spelling.sign ≢ Plus
   pub minus : (spelling.sign ≡ Minus) ↔ (n <ℤ pos 0)
   pub no_leading_zero : slice_index spelling.whole 0 ≡ 48 → length spelling.whole ≡ 1
-  pub no_trailing_zero : (digits : List ℕ) → spelling.fraction ≡ Some digits → (front : List ℕ) × (last : ℕ) × (digits ≡ front ++ last ∷ []) × (last ≢ 48)
-  pub shortest : (other : Spelling) → IsLawful other → IsPlain other → IsSame (value_of other) (decimal_fraction n k) → length text ≤ length (text_of other)
+  pub no_trailing_zero : (digits : List ℕ) → spelling.fraction ≡ Some digits →
+      (front : List ℕ) × (last : ℕ) × (digits ≡ front ++ last ∷ []) × (last ≢ 48)
+  pub shortest : (other : Spelling) → IsLawful other → IsPlain other →
+      IsSame (value_of other) (decimal_fraction n k) → length text ≤ length (text_of other)

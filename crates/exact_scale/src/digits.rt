@@ -3,6 +3,7 @@ ghost use Rattle.std.specs.Prelude.{◌≡◌, ◌^◌, ◌+◌, ◌≤◌, ◌<
 ghost use Rattle.exact_scale.specs.Buffer.{Extends};
 ghost use Rattle.exact_scale.specs.Digits.{decimal_digits, last_digits};
 
+use itoa::Buffer;
 use std::alloc::AllocError;
 
 /// Appends a number's digits without leading zeros, and `0` for 0. Some of them may stand in `out` after an error.
@@ -10,25 +11,8 @@ pub(crate) fn push_number(out: &mut Vec<u8>, number: u128) -> Result<(), AllocEr
     ensures ok { OnOk result (out.new.items ≡ out.old.items ++ decimal_digits number) }
     ensures grows { Extends out.old.items out.new.items }
 {
-    match u64::try_from(number) {
-        Ok(number) => push_small(out, number),
-        Err(_) => {
-            push_number(out, number / 10)?;
-            out.push(b'0' + (number % 10) as u8)?;
-            Ok(())
-        }
-    }
-}
-
-/// The same of a number that fits 64 bits, which are faster to divide.
-fn push_small(out: &mut Vec<u8>, number: u64) -> Result<(), AllocError>
-    ensures ok { OnOk result (out.new.items ≡ out.old.items ++ decimal_digits number) }
-    ensures grows { Extends out.old.items out.new.items }
-{
-    if number >= 10 {
-        push_small(out, number / 10)?;
-    }
-    out.push(b'0' + (number % 10) as u8)?;
+    let mut digits = Buffer::new();
+    out.extend_from_slice(digits.format(number).as_bytes())?;
     Ok(())
 }
 

@@ -8,6 +8,12 @@ use crate::reading::Decimal;
 use crate::significand::NUMERATOR_LIMIT;
 use thiserror::Error;
 
+/// The size of the least raw value that a signal may have: that of a signed one of 64 bits.
+pub const LEAST_RAW_SIZE: u64 = 1 << 63;
+
+/// The greatest raw value that a signal may have: that of an unsigned one of 64 bits.
+pub const GREATEST_RAW: u64 = u64::MAX;
+
 /// A factor and an offset over one power of ten: `factor / 10^k` and `offset / 10^k`.
 #[derive(Clone, Copy, Debug, PartialEq, Eq)]
 pub struct Scale {
