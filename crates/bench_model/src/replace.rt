@@ -37,7 +37,8 @@ fn database_at(
     changes: &mut Vec<Change>,
 ) -> Result<Database, AllocError>
     ensures database { IfOk result (λ d. d ≡ database_after own.now (find (names_bus place) changes.old.items)) }
-    ensures others { (other : ℕ) → other ≢ place → find (names_bus other) changes.new.items ≡ find (names_bus other) changes.old.items }
+    ensures others { (other : ℕ) → other ≢ place →
+        find (names_bus other) changes.new.items ≡ find (names_bus other) changes.old.items }
 {
     match change_of(place, changes) {
         Some(found) => {

@@ -41,9 +41,31 @@ impl Model for State {
 
     ghost Value = { Machine };
 
-    ghost view = { λ s. record { epoch = s.epoch; version = s.version; region = s.region; pins = s.pins; regions = s.regions; retired = s.retired; images = s.images; writing = s.writing; lanes = s.lanes; cleared = s.cleared } };
+    ghost view = { λ s. record {
+      epoch = s.epoch;
+      version = s.version;
+      region = s.region;
+      pins = s.pins;
+      regions = s.regions;
+      retired = s.retired;
+      images = s.images;
+      writing = s.writing;
+      lanes = s.lanes;
+      cleared = s.cleared;
+    } };
 
-    ghost invariant = { λ s. RegionRule (record { epoch = s.epoch; version = s.version; region = s.region; pins = s.pins; regions = s.regions; retired = s.retired; images = s.images; writing = s.writing; lanes = s.lanes; cleared = s.cleared }) };
+    ghost invariant = { λ s. RegionRule (record {
+      epoch = s.epoch;
+      version = s.version;
+      region = s.region;
+      pins = s.pins;
+      regions = s.regions;
+      retired = s.retired;
+      images = s.images;
+      writing = s.writing;
+      lanes = s.lanes;
+      cleared = s.cleared;
+    }) };
 }
 
 impl State {

@@ -27,7 +27,8 @@ parent_at parents i = option_flatten (slice_get parents i)
 -- a signal is active where it has no parent, or where its parent is active and selects it
 pub data IsActive (parents : List (Option Parent)) (raws : List (Option ℤ)) : ℕ → Type 0 where
   at_top : {i : ℕ} → parent_at parents i ≡ None → IsActive parents raws i
-  below : {i : ℕ} (p : Parent) → parent_at parents i ≡ Some p → IsActive parents raws p.signal → IsTrue (selects raws p) → IsActive parents raws i
+  below : {i : ℕ} (p : Parent) → parent_at parents i ≡ Some p → IsActive parents raws p.signal → IsTrue (selects raws p) →
+      IsActive parents raws i
 
 -- a signal with this parent is active, where active tells it of the parent
 abbrev pub is_active_below : List (Option ℤ) → (ℕ → Bool) → Option Parent → Bool

@@ -97,10 +97,13 @@ fn check_cases(rt: &impl Abort, alloc: Global, cases: &[Case]) -> Result<(), Fai
 }
 
 /// Values of this type may go to another thread.
-fn assert_crosses<T: Send + Sync>(_value: &T) {}
+fn assert_crosses<T: Send + Sync + Drop>(_value: &T) {}
 
 #[test]
 fn a_tree_goes_to_another_thread(rt: HostRuntime) -> Result<(), Fail> {
+    assert_crosses(&Tree {
+        parents: List::of(Vec::new(rt.alloc())),
+    });
     let tree = resolve(rt.alloc(), &[], &[])?;
     assert_crosses(&tree);
     assert_eq!(rt; tree.parents.items().len(), 0);

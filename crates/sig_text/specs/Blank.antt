@@ -35,7 +35,8 @@ pub data BlankSpelling (text : List ℕ) (comments : Bool) (from to : ℕ) : Typ
   space : IsSpace (slice_range text from to) → BlankSpelling text comments from to
   byte_order_mark : from ≡ 0 → IsByteOrderMark (slice_range text from to) → BlankSpelling text comments from to
   -- up to a line feed or the end
-  line_comment : IsTrue comments → IsLineComment (slice_range text from to) → (to < length text → slice_index text to ≡ line_feed) → BlankSpelling text comments from to
+  line_comment : IsTrue comments → IsLineComment (slice_range text from to) →
+      (to < length text → slice_index text to ≡ line_feed) → BlankSpelling text comments from to
   block_comment : IsTrue comments → IsBlockComment (slice_range text from to) → BlankSpelling text comments from to
 
 -- a blank stands from one place to another

@@ -13,7 +13,8 @@ pub record IsToken (text : List ℕ) (token : Token) : Type 0 where
   pub ordered : token.at < token.end
   pub within : token.end ≤ length text
   pub spelled : IsSpelling token.kind (slice_range text token.at token.end)
-  pub longest : (kind : TokenKind) (end : ℕ) → token.end < end → end ≤ length text → ¬ IsSpelling kind (slice_range text token.at end)
+  pub longest : (kind : TokenKind) (end : ℕ) → token.end < end → end ≤ length text →
+      ¬ IsSpelling kind (slice_range text token.at end)
 
 -- no token begins at this place
 abbrev pub BeginsNoTokenAt : List ℕ → ℕ → Type 0
@@ -31,7 +32,8 @@ IsGap text comments from to = (ends : List ℕ) × AreBlanks text comments from 
 -- from one place to another the tokens stand in order, with only blanks between, before and after them
 abbrev pub AreTokens : List ℕ → Bool → ℕ → List Token → ℕ → Type 0
 AreTokens text comments from [] to = IsGap text comments from to
-AreTokens text comments from (token ∷ tokens) to = IsGap text comments from token.at × IsToken text token × AreTokens text comments token.end tokens to
+AreTokens text comments from (token ∷ tokens) to =
+    IsGap text comments from token.at × IsToken text token × AreTokens text comments token.end tokens to
 
 -- these are the tokens of the whole text
 abbrev pub IsTokens : List ℕ → Bool → List Token → Type 0

@@ -93,7 +93,8 @@ const ALIKE: [(&[u8], &str); 78] = [
     // Signs.
     (
         b":;,|@+-()[]{}=.",
-        "Sign 0-1, Sign 1-2, Sign 2-3, Sign 3-4, Sign 4-5, Sign 5-6, Sign 6-7, Sign 7-8, Sign 8-9, Sign 9-10, Sign 10-11, Sign 11-12, Sign 12-13, Sign 13-14, Sign 14-15",
+        "Sign 0-1, Sign 1-2, Sign 2-3, Sign 3-4, Sign 4-5, Sign 5-6, Sign 6-7, Sign 7-8, Sign 8-9, \
+         Sign 9-10, Sign 10-11, Sign 11-12, Sign 12-13, Sign 13-14, Sign 14-15",
     ),
     (
         b"(1,-40)",
@@ -127,7 +128,8 @@ const ALIKE: [(&[u8], &str); 78] = [
     ),
     (
         b"SG_ S : 7|8@0- (0.5,-40)",
-        "Word 0-3, Word 4-5, Sign 6-7, Number 8-9, Sign 9-10, Number 10-11, Sign 11-12, Number 12-13, Sign 13-14, Sign 15-16, Number 16-19, Sign 19-20, Sign 20-21, Number 21-23, Sign 23-24",
+        "Word 0-3, Word 4-5, Sign 6-7, Number 8-9, Sign 9-10, Number 10-11, Sign 11-12, \
+         Number 12-13, Sign 13-14, Sign 15-16, Number 16-19, Sign 19-20, Sign 20-21, Number 21-23, Sign 23-24",
     ),
     (
         b"LIN_speed = 19.2 kbps;",

@@ -188,7 +188,7 @@ fn message_of(alloc: Global, row: &MessageRow) -> Result<Message, Fail>
     })
 }
 
-fn messages_of(alloc: Global, rows: &[MessageRow]) -> Result<Vec<Message>, Fail>
+pub fn messages_of(alloc: Global, rows: &[MessageRow]) -> Result<Vec<Message>, Fail>
     ensures { IfOk result (λ messages. All IsMade messages.items) }
 {
     let mut messages = Vec::new(alloc);

@@ -1,5 +1,7 @@
 //! What `check` answers at the edge of each limit, and which of several faults it names.
 
+use super::building;
+use super::rows::SIGNAL;
 use crate::checking::check_messages;
 use crate::*;
 use multiplex_tree::{List, Parent, Range, Tree};
@@ -48,6 +50,11 @@ const EDGES: &[(Edge, &'static str)] = &[
     (Edge::SignalName(0), "5 of 0, "),
     (Edge::SignalName(1), "valid"),
     (Edge::SignalName(128), "valid"),
+    (
+        Edge::SignalName(129),
+        "5 of 0, nnnnnnnnnnnnnnnnnnnnnnnnnnnnnnnnnnnnnnnnnnnnnnnnnnnnnnnnnnnnnnnnn\
+         nnnnnnnnnnnnnnnnnnnnnnnnnnnnnnnnnnnnnnnnnnnnnnnnnnnnnnnnnnnnnnnn",
+    ),
     (Edge::Unit(1_024), "valid"),
     (Edge::Unit(1_025), "5 of 0, 0"),
     (Edge::LabelText(1_024), "valid"),
@@ -395,6 +402,32 @@ fn the_first_fault_is_named_at_each_edge_and_in_order(rt: HostRuntime) -> Result
     for (rows, words) in ORDERS {
         is_answered(&rt, rt.alloc(), messages_of(rt.alloc(), rows)?, words)?;
     }
+    Ok(())
+}
+
+/// A message of two signals of one name.
+const NAMED_ALIKE: building::MessageRow = building::MessageRow {
+    name: "M",
+    key: Key {
+        extended: false,
+        id: 1,
+    },
+    signals: &[SIGNAL, SIGNAL],
+    links: &[],
+};
+
+#[test]
+fn check_refuses_two_signals_of_one_name(rt: HostRuntime) -> Result<(), Fail> {
+    let alloc = rt.alloc();
+    let messages = List::of(building::messages_of(alloc, &[NAMED_ALIKE])?);
+    let answer = match check(alloc, Database { messages }) {
+        Ok(_) => Ok(()),
+        Err(fault) => Err(fault),
+    };
+    assert_eq!(rt;
+        words_of(alloc, &answer)?.as_slice(),
+        b"3 of 1, S".as_slice()
+    );
     Ok(())
 }
 
