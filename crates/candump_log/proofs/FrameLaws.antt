@@ -1,6 +1,6 @@
 -- The identifier and the body of a frame: what is read at the front of a text is spelled there, and what is spelled
 -- there is read.
-use Rattle.std.proofs.Common.{◌≡◌, ◌⊎◌, ℕ, ◌^◌, ◌<◌, ◌≤◌, Bool, true, false, cond, leb, eqb, List, [], ◌∷◌, ◌++◌, length, codes, Option, Some, None, refl, sym, ap, subst, ◌∙◌, arith, inl, inr, append_assoc}
+use Rattle.std.proofs.Common.{◌≡◌, ◌⊎◌, ℕ, ◌≤◌, Bool, true, false, cond, leb, eqb, List, [], ◌∷◌, ◌++◌, length, codes, Option, Some, None, refl, sym, ap, subst, ◌∙◌, arith, inl, inr, append_assoc}
 use Rattle.std.specs.Prelude.{◌==◌, ◌&&◌, ◌||◌}
 use Rattle.std.specs.Option.{option_map}
 use Rattle.std.specs.List.{list_all}
@@ -15,7 +15,7 @@ use Rattle.byte_forms.proofs.PieceLaws.{bind_some, field_before-append, field_be
 use Rattle.byte_forms.proofs.NumberLaws.{number_up_to_takes, number_up_to-is}
 use Rattle.bench_model.specs.declared.database.Key.{Key}
 use Rattle.candump_log.specs.Data.{SpellsData}
-use Rattle.candump_log.specs.Line.{IsTail, IsIdentifier, IsLengthCode, IsLength, IsClassic, IsFd, IsRemote, IsBody}
+use Rattle.candump_log.specs.Line.{standard_limit, extended_limit, IsTail, IsIdentifier, IsLengthCode, IsLength, IsClassic, IsFd, IsRemote, IsBody}
 use Rattle.candump_log.specs.LineOf.{key_of, key_front, bytes_front, after_length, after_code, fd_front, classic_front, body_front}
 use Rattle.candump_log.proofs.BlankLaws.{differs, blank_fails}
 use Rattle.candump_log.proofs.DataLaws.{data_takes, data-spelled, StopsData, tail_stops}
@@ -55,7 +55,7 @@ key_of-is : (digits : List ℕ) (key : Key) → IsIdentifier digits key → key_
 unfolding key_of
 key_of-is digits key is = by_form is.form
   where
-    by_form : ((length digits ≡ 3) × (key.extended ≡ false) × (key.id ≤ 2047)) ⊎ ((length digits ≡ 8) × (key.extended ≡ true) × (key.id < 2 ^ 30)) →
+    by_form : ((length digits ≡ 3) × (key.extended ≡ false) × (key.id ≤ standard_limit)) ⊎ ((length digits ≡ 8) × (key.extended ≡ true) × (key.id ≤ extended_limit)) →
         cond (eqb (length digits) 3) (option_map (λ (n : ℕ). record { extended = false; id = n }) (number_up_to radixes.Hexadecimal 2047 digits))
         (cond (eqb (length digits) 8) (option_map (λ (n : ℕ). record { extended = true; id = n }) (number_up_to radixes.Hexadecimal 1073741823 digits)) None)
         ≡ Some key

@@ -6,7 +6,9 @@ pub mod LineLaws
 pub mod HeldLaws
 pub mod CutLaws
 pub mod RoutingLaws
+pub mod PlaceLaws
 pub mod LineRuleLaws
 pub mod GivenLineLaws
 pub mod FetchLaws
 pub mod AnswerLaws
+pub mod ReadLaws

@@ -7,13 +7,13 @@ use Rattle.std.proofs.lemmas.Bool.{cases_Bool, and_parts, leb-true, leb-false, l
 use Rattle.byte_forms.specs.declared.numerals.Radix.TheVariants as radixes
 use Rattle.byte_forms.specs.Numerals.{number_of}
 use Rattle.byte_forms.proofs.PieceLaws.{bind_some}
-use Rattle.byte_forms.proofs.SignedLaws.{number_of-below}
+use Rattle.byte_forms.proofs.DigitLaws.{number_of-below}
 use Rattle.bench_model.specs.declared.database.Key.{Key}
 use Rattle.candump_log.specs.declared.log_line.LogLine.{LogLine}
 use Rattle.candump_log.specs.declared.log_line.LogLine.TheVariants as line
 use Rattle.candump_log.specs.declared.log_line.Span.{Span}
 use Rattle.candump_log.specs.Data.{data_limit}
-use Rattle.candump_log.specs.Line.{is_blank, AreDigits, LinePieces, front_text, behind_text, stamp, IsIdentifier, IsBody, frame_line, line_from, Spells, IsLine, IsInterface, KeyFits, KeepsLimits}
+use Rattle.candump_log.specs.Line.{standard_limit, extended_limit, is_blank, AreDigits, LinePieces, front_text, behind_text, stamp, IsIdentifier, IsBody, frame_line, line_from, Spells, IsLine, IsInterface, KeyFits, KeepsLimits}
 use Rattle.candump_log.specs.LineOf.{stamp_front, after_blanks, after_word, is_tail, key_front, body_front, parts_of, read_line, line_or_bad, line_of, interface_of}
 use Rattle.candump_log.proofs.BlankLaws.{StopsAt, after_blanks_takes, after_blanks-append, after_word_takes, after_word-append, is_tail-true, is_tail-is, word_stops, blanks_stop, run_stops}
 use Rattle.candump_log.proofs.StampLaws.{stamp_text, stamp_front_takes, stamp_front-text}
@@ -84,7 +84,7 @@ id_stops id rest key is =
     let parts = and_parts _ (list_all is_ascii_hexdigit id) is.numeral in
     run_stops is_ascii_hexdigit refl refl refl id rest (by_form is.form) parts.1
   where
-    by_form : ((length id ≡ 3) × (key.extended ≡ false) × (key.id ≤ 2047)) ⊎ ((length id ≡ 8) × (key.extended ≡ true) × (key.id < 2 ^ 30)) → 1 ≤ length id
+    by_form : ((length id ≡ 3) × (key.extended ≡ false) × (key.id ≤ standard_limit)) ⊎ ((length id ≡ 8) × (key.extended ≡ true) × (key.id ≤ extended_limit)) → 1 ≤ length id
     by_form (inl f) = omega (arith, f.0)
     by_form (inr f) = omega (arith, f.0)
 
@@ -200,7 +200,7 @@ stamp-below text p l s =
 key_fits : (digits : List ℕ) (key : Key) → IsIdentifier digits key → key.id < 2 ^ 29 → KeyFits key
 key_fits digits key is low = by_form is.form
   where
-    by_form : ((length digits ≡ 3) × (key.extended ≡ false) × (key.id ≤ 2047)) ⊎ ((length digits ≡ 8) × (key.extended ≡ true) × (key.id < 2 ^ 30)) → KeyFits key
+    by_form : ((length digits ≡ 3) × (key.extended ≡ false) × (key.id ≤ standard_limit)) ⊎ ((length digits ≡ 8) × (key.extended ≡ true) × (key.id ≤ extended_limit)) → KeyFits key
     by_form (inl f) = (λ _. omega (arith, f.2), low)
     by_form (inr f) = (λ no. absurd (cc (no, f.1)), low)
 
@@ -211,9 +211,9 @@ content_fits body bytes (inr fd) = fd.few
 id-below : (digits : List ℕ) (key : Key) → IsIdentifier digits key → key.id < 2 ^ 30
 id-below digits key is = by_form is.form
   where
-    by_form : ((length digits ≡ 3) × (key.extended ≡ false) × (key.id ≤ 2047)) ⊎ ((length digits ≡ 8) × (key.extended ≡ true) × (key.id < 2 ^ 30)) → key.id < 2 ^ 30
+    by_form : ((length digits ≡ 3) × (key.extended ≡ false) × (key.id ≤ standard_limit)) ⊎ ((length digits ≡ 8) × (key.extended ≡ true) × (key.id ≤ extended_limit)) → key.id < 2 ^ 30
     by_form (inl f) = omega (arith, f.2)
-    by_form (inr f) = f.2
+    by_form (inr f) = omega (arith, f.2)
 
 from_keeps : (micros : ℕ) (digits body : List ℕ) (key : Key) (content : Option (List ℕ)) → micros < 10 ^ 18 → IsIdentifier digits key → IsBody body content → KeepsLimits (line_from micros key content)
 from_keeps micros digits body key content stamp_fits id is =

@@ -205,6 +205,12 @@ front_by None left ended place held s end = tt
 front_by (Some bytes) None ended place held s end = tt
 front_by (Some bytes) (Some left) ended place held s end = front_told ended place held bytes left s end
 
+-- of a reader that keeps the rule, also between two calls
+pub shown_front : (src : SourceState) (other : OtherSide) (held : List ℕ) (place : Place) (failed : Bool) (s : LinesState) → shown src other held place failed ≡ s → Keeps src held place → IsFront s.texts (log_of s)
+shown_front src other held place failed s is k =
+    let P : LinesState → Type 0 = λ s. IsFront s.texts (log_of s) in
+    subst P is (front_by (log_by place.taken src.taken) src.left src.ended place held k.stands k.end)
+
 -- the bytes taken are as many as are counted
 
 counted_by : (o : Option (List ℕ)) (ended : Bool) (place : Place) (held : List ℕ) → IfSome o (Stands ended place held) → IfSome o (λ bytes. length bytes ≡ place.taken)

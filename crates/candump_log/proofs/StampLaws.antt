@@ -11,7 +11,7 @@ use Rattle.std.proofs.lemmas.Int.Digits.{digits_value_more}
 use Rattle.byte_forms.specs.declared.numerals.Radix.TheVariants as radixes
 use Rattle.byte_forms.specs.Numerals.{number_of, is_numeral}
 use Rattle.byte_forms.proofs.RunLaws.{list_all_from, list_all-take_while}
-use Rattle.byte_forms.proofs.SignedLaws.{number_of-below}
+use Rattle.byte_forms.proofs.DigitLaws.{number_of-below}
 use Rattle.byte_forms.specs.Pieces.{after_literal}
 use Rattle.byte_forms.proofs.PieceLaws.{bind_some, after_literal_takes, after_literal-append}
 use Rattle.candump_log.specs.Line.{AreDigits}

@@ -1,13 +1,14 @@
 -- what a line says
 pub mod Data
 pub mod Line
-pub mod LineOf
 -- the lines of a log
 pub mod LogLines
 pub mod LinesState
 pub mod Routing
 pub mod NextLine
--- the code's views and steps
+pub mod Reads
+-- the code's shape, views and steps
+pub mod LineOf
 pub mod LineView
 pub mod Cut
 pub mod Steps

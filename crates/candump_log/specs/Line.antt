@@ -17,6 +17,13 @@ use Rattle.candump_log.specs.Data.{classic_limit, data_limit, SpellsData}
 abbrev pub line_limit : ℕ
 line_limit = 512
 
+-- the greatest identifier of 3 digits, and that of 8
+abbrev pub standard_limit : ℕ
+standard_limit = 0x7ff
+
+abbrev pub extended_limit : ℕ
+extended_limit = 0x3fff_ffff
+
 -- a blank of a log: the space, the tab or the carriage return
 abbrev pub is_blank : ℕ → Bool
 is_blank b = b == 32 || (b == 9 || b == 13)
@@ -63,8 +70,8 @@ stamp p = number_of radixes.Decimal p.seconds * 1000000 + number_of radixes.Deci
 pub record IsIdentifier (digits : List ℕ) (key : Key) : Type 0 where
   pub numeral : is_numeral radixes.Hexadecimal digits ≡ true
   pub id : key.id ≡ number_of radixes.Hexadecimal digits
-  pub form : ((length digits ≡ 3) × (key.extended ≡ false) × (key.id ≤ 2047))
-      ⊎ ((length digits ≡ 8) × (key.extended ≡ true) × (key.id < 2 ^ 30))
+  pub form : ((length digits ≡ 3) × (key.extended ≡ false) × (key.id ≤ standard_limit))
+      ⊎ ((length digits ≡ 8) × (key.extended ≡ true) × (key.id ≤ extended_limit))
 
 -- what may follow the data of a classic frame or the length of a remote one: `_` and a hexadecimal digit
 abbrev pub IsLengthCode : List ℕ → Type 0

@@ -13,7 +13,8 @@ use Rattle.bench_model.specs.declared.database.Key.{Key}
 use Rattle.candump_log.specs.declared.log_line.LogLine.{LogLine}
 use Rattle.candump_log.specs.declared.log_line.LogLine.TheVariants as line
 use Rattle.candump_log.specs.declared.log_line.Span.{Span}
-use Rattle.candump_log.specs.Line.{is_blank, line_from}
+use Rattle.candump_log.specs.Data.{classic_limit, data_limit}
+use Rattle.candump_log.specs.Line.{line_limit, standard_limit, extended_limit, is_blank, line_from}
 
 -- the decimal digits at the front, where they are not more than `most`: how many, and their number
 unfoldable pub digits_front : ℕ → List ℕ → Option (ℕ × ℕ)
@@ -54,9 +55,9 @@ is_tail (b ∷ bs) = is_blank b
 unfoldable pub key_of : List ℕ → Option Key
 key_of digits =
     if length digits == 3
-    then option_map (λ n. record { extended = false; id = n }) (number_up_to radixes.Hexadecimal 2047 digits)
+    then option_map (λ n. record { extended = false; id = n }) (number_up_to radixes.Hexadecimal standard_limit digits)
     else (if length digits == 8
-    then option_map (λ n. record { extended = true; id = n }) (number_up_to radixes.Hexadecimal 1073741823 digits)
+    then option_map (λ n. record { extended = true; id = n }) (number_up_to radixes.Hexadecimal extended_limit digits)
     else None)
 
 -- the identifier before the `#`
@@ -98,10 +99,13 @@ after_code (b ∷ digit ∷ bs) = if b == 95 && is_ascii_hexdigit digit then bs 
 abbrev pub fd_front : List ℕ → Option (Option (List ℕ) × List ℕ)
 fd_front [] = None
 fd_front (flags ∷ bs) =
-    if is_ascii_hexdigit flags then Some (Some (bytes_front 64 true bs).0, (bytes_front 64 true bs).1) else None
+    if is_ascii_hexdigit flags
+    then Some (Some (bytes_front data_limit true bs).0, (bytes_front data_limit true bs).1)
+    else None
 
 abbrev pub classic_front : List ℕ → Option (Option (List ℕ) × List ℕ)
-classic_front text = Some (Some (bytes_front 8 true text).0, after_code (bytes_front 8 true text).1)
+classic_front text =
+    Some (Some (bytes_front classic_limit true text).0, after_code (bytes_front classic_limit true text).1)
 
 unfoldable pub body_front : List ℕ → Option (Option (List ℕ) × List ℕ)
 body_front [] = classic_front []
@@ -123,7 +127,7 @@ parts_of text = do
       else None)
 
 unfoldable pub read_line : List ℕ → Option (Span × LogLine)
-read_line text = if nat_le (length text) 512 then parts_of text else None
+read_line text = if nat_le (length text) line_limit then parts_of text else None
 
 -- what a text says as a line of a log
 abbrev pub line_or_bad : Option (Span × LogLine) → LogLine

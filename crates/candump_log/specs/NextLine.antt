@@ -49,7 +49,8 @@ pub record GivesLine (before : LinesState) (line : LogLine) (now : LinesState) :
   pub texts : now.texts ≡ option_map (λ texts. texts ++ text ∷ []) before.texts
   pub line_is : line ≡ line_of text
   pub given : now.given ≡ before.given + 1
-  pub asked : before.ready ≡ false → (before.taken < now.taken) ⊎ ((before.source.ended ≡ false) × (now.source.ended ≡ true))
+  pub asked : before.ready ≡ false →
+      (before.taken < now.taken) ⊎ ((before.source.ended ≡ false) × (now.source.ended ≡ true))
 
 -- no line was given, and none stands ready
 pub record GivesNone (before now : LinesState) : Type 0 where
@@ -86,11 +87,13 @@ pub record NextLine (before : LinesState) (result : Result (Option LogLine) Line
 
 -- the same, with the place of the line's interface among these names
 abbrev pub AnswersOn : List (List ℕ) → LinesState → Result (Option Routed) LinesRefused → LinesState → Type 0
-AnswersOn names before (Ok (Some routed)) now = (line : GivesLine before routed.line now) × (routed.place ≡ place_of names line.text)
+AnswersOn names before (Ok (Some routed)) now =
+    (line : GivesLine before routed.line now) × (routed.place ≡ place_of names line.text)
 AnswersOn names before (Ok None) now = GivesNone before now × HasEnded now
 AnswersOn names before (Err why) now = GivesNone before now × HasStopped now × Why why before now
 
-pub record NextOn (names : List (List ℕ)) (before : LinesState) (result : Result (Option Routed) LinesRefused) (now : LinesState) : Type 0 where
+pub record NextOn (names : List (List ℕ)) (before : LinesState) (result : Result (Option Routed) LinesRefused)
+    (now : LinesState) : Type 0 where
   pub failed : now.failed ≡ is_err result
   pub advances : Advances before now
   pub answer : AnswersOn names before result now

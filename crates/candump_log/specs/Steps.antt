@@ -39,7 +39,8 @@ work place ended = 2 * (log_limit - place.taken) + unsaid ended
 abbrev pub next_place : Place → ℕ → Place
 next_place place start = record { taken = place.taken; start = start; given = place.given + 1; long = false }
 
-pub record GivesWhole (names : List (List ℕ)) (was : List ℕ) (place : Place) (routed : Routed) (held : List ℕ) (now : Place) : Type 0 where
+pub record GivesWhole (names : List (List ℕ)) (was : List ℕ) (place : Place) (routed : Routed) (held : List ℕ)
+    (now : Place) : Type 0 where
   pub piece : List ℕ
   pub plain : NoFeed piece
   pub parted : was ≡ piece ++ 10 ∷ held
@@ -50,7 +51,8 @@ abbrev pub TakesWhole : List (List ℕ) → List ℕ → Place → Option Routed
 TakesWhole names was place result held now =
     MatchOption result ((held ≡ was) × (now ≡ place) × NoFeed was) (λ routed. GivesWhole names was place routed held now)
 
-pub record GivesLast (names : List (List ℕ)) (was : List ℕ) (place : Place) (routed : Routed) (held : List ℕ) (now : Place) : Type 0 where
+pub record GivesLast (names : List (List ℕ)) (was : List ℕ) (place : Place) (routed : Routed) (held : List ℕ)
+    (now : Place) : Type 0 where
   pub held_is : held ≡ []
   pub some : (0 < length was) ⊎ (place.long ≡ true)
   pub routed_is : routed ≡ route names place.long was
@@ -97,7 +99,8 @@ abbrev pub further : Place → ℕ → Place
 further place n = record { taken = place.taken + n; start = place.start; given = place.given; long = place.long }
 
 -- one read more before the limit; whether it said the end
-pub record Fetches (before : SourceState) (was : List ℕ) (place : Place) (ended : Bool) (source : SourceState) (held : List ℕ) (now : Place) : Type 0 where
+pub record Fetches (before : SourceState) (was : List ℕ) (place : Place) (ended : Bool) (source : SourceState)
+    (held : List ℕ) (now : Place) : Type 0 where
   pub n : ℕ
   pub reads : Reads before was n source held
   pub room : place.taken < log_limit

@@ -1,29 +1,34 @@
 //! Hexadecimal digits, two to a byte.
-ghost use Rattle.std.specs.Prelude.{◌≡◌, ◌<◌, true};
+ghost use Rattle.std.specs.Prelude.{◌≡◌, if◌then◌else◌};
 ghost use Rattle.std.specs.Char.{digit_value, is_ascii_hexdigit};
 ghost use Rattle.byte_forms.specs.Numerals.{hexadecimal_byte};
 ghost use Rattle.byte_forms.specs.Pieces.{value_view};
 
-/// Whether the byte is a hexadecimal digit of either case. It has no branch, since digits and letters come in
-/// no order.
-#[inline(always)]
-fn is_hexadecimal(byte: u8) -> bool
-    ensures { result ≡ is_ascii_hexdigit byte }
-{
-    let decimal = (b'0' <= byte) & (byte <= b'9');
-    let upper = (b'A' <= byte) & (byte <= b'F');
-    let lower = (b'a' <= byte) & (byte <= b'f');
-    decimal | upper | lower
-}
+/// What each byte counts as a hexadecimal digit of either case, and 255 where it is none.
+static DIGITS: [u8; 256] = [
+    255, 255, 255, 255, 255, 255, 255, 255, 255, 255, 255, 255, 255, 255, 255, 255, 255, 255, 255,
+    255, 255, 255, 255, 255, 255, 255, 255, 255, 255, 255, 255, 255, 255, 255, 255, 255, 255, 255,
+    255, 255, 255, 255, 255, 255, 255, 255, 255, 255, 0, 1, 2, 3, 4, 5, 6, 7, 8, 9, 255, 255, 255,
+    255, 255, 255, 255, 10, 11, 12, 13, 14, 15, 255, 255, 255, 255, 255, 255, 255, 255, 255, 255,
+    255, 255, 255, 255, 255, 255, 255, 255, 255, 255, 255, 255, 255, 255, 255, 255, 10, 11, 12, 13,
+    14, 15, 255, 255, 255, 255, 255, 255, 255, 255, 255, 255, 255, 255, 255, 255, 255, 255, 255,
+    255, 255, 255, 255, 255, 255, 255, 255, 255, 255, 255, 255, 255, 255, 255, 255, 255, 255, 255,
+    255, 255, 255, 255, 255, 255, 255, 255, 255, 255, 255, 255, 255, 255, 255, 255, 255, 255, 255,
+    255, 255, 255, 255, 255, 255, 255, 255, 255, 255, 255, 255, 255, 255, 255, 255, 255, 255, 255,
+    255, 255, 255, 255, 255, 255, 255, 255, 255, 255, 255, 255, 255, 255, 255, 255, 255, 255, 255,
+    255, 255, 255, 255, 255, 255, 255, 255, 255, 255, 255, 255, 255, 255, 255, 255, 255, 255, 255,
+    255, 255, 255, 255, 255, 255, 255, 255, 255, 255, 255, 255, 255, 255, 255, 255, 255, 255, 255,
+    255, 255, 255, 255, 255, 255, 255, 255, 255, 255, 255, 255, 255, 255, 255, 255, 255, 255, 255,
+    255, 255, 255,
+];
 
-/// What a digit counts: the low four bits of a decimal one, and nine more for a letter, which has bit 6.
+/// What the byte counts as a digit. A look-up costs a third of the comparisons, since digits and letters come in no
+/// order.
 #[inline(always)]
-fn digit_value(digit: u8) -> u8
-    requires { is_ascii_hexdigit digit ≡ true }
-    ensures value { result ≡ digit_value digit }
-    ensures below { result < 16 }
+fn digit_of(byte: u8) -> u8
+    ensures { result ≡ (if is_ascii_hexdigit byte then digit_value byte else 255) }
 {
-    digit % 16 + digit / 64 * 9
+    DIGITS[byte as usize]
 }
 
 /// The byte of the two digits at the front, and the text after them.
@@ -35,8 +40,9 @@ pub(crate) fn hexadecimal_byte(bytes: &[u8]) -> Option<(u8, &[u8])>
     let [high, low, rest @ ..] = bytes else {
         return None;
     };
-    if is_hexadecimal(*high) & is_hexadecimal(*low) {
-        Some((digit_value(*high) * 16 + digit_value(*low), rest))
+    let (high, low) = (digit_of(*high), digit_of(*low));
+    if (high < 16) & (low < 16) {
+        Some((high * 16 + low, rest))
     } else {
         None
     }

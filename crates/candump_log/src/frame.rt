@@ -10,6 +10,11 @@ use crate::payload::{CLASSIC_LIMIT, DATA_LIMIT, Payload};
 use bench_model::Key;
 use byte_forms::{Class, Radix, field_before, number_up_to};
 
+/// The greatest identifier of 3 digits.
+const STANDARD_LIMIT: u64 = 0x7ff;
+/// The greatest identifier of 8 digits.
+const EXTENDED_LIMIT: u64 = 0x3fff_ffff;
+
 /// The identifier of these digits; that of an error frame has bit 29.
 #[tactic(auto, unfolding(crate::specs::LineOf::key_of))]
 #[inline(always)]
@@ -18,14 +23,14 @@ fn key_of(digits: &[u8]) -> Option<Key>
 {
     match digits.len() {
         3 => {
-            let id = number_up_to(Radix::Hexadecimal, 0x7ff, digits)?;
+            let id = number_up_to(Radix::Hexadecimal, STANDARD_LIMIT, digits)?;
             Some(Key {
                 extended: false,
                 id: id as u32,
             })
         }
         8 => {
-            let id = number_up_to(Radix::Hexadecimal, 0x3fff_ffff, digits)?;
+            let id = number_up_to(Radix::Hexadecimal, EXTENDED_LIMIT, digits)?;
             Some(Key {
                 extended: true,
                 id: id as u32,

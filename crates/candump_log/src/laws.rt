@@ -1,5 +1,6 @@
 //! Laws about the definitions that the contracts cite. They have no code.
-ghost use Rattle.std.specs.Prelude.{◌≡◌, ◌++◌, ◌↔◌, List, ℕ, true, false, Some, None, Option};
+ghost use Rattle.std.specs.Prelude.{◌≡◌, ◌⊎◌, ◌++◌, ◌↔◌, List, [], ◌∷◌, ℕ, true, false, Some, None, Option};
+ghost use Rattle.std.specs.Prelude.{IfSome};
 ghost use Rattle.std.specs.Prelude.{Result, Ok, Err};
 ghost use Rattle.std.specs.List.{AllByRecursion};
 ghost use Rattle.byte_forms.specs.Lines.{all_lines};
@@ -11,9 +12,12 @@ ghost use Rattle.candump_log.specs.declared.place.LinesRefused.{LinesRefused as 
 ghost use Rattle.candump_log.specs.declared.place.LinesRefused.TheVariants.{TooLong};
 ghost use Rattle.candump_log.specs.Line.{IsLine, IsInterface, KeepsLimits};
 ghost use Rattle.candump_log.specs.LineOf.{line_of, interface_of};
+ghost use Rattle.candump_log.specs.Routing.{place_of, HasInterface, IsFirstName, IsNoName};
 ghost use Rattle.candump_log.specs.LogLines.{whole_lines, last_line, with_feeds, NoFeed};
-ghost use Rattle.candump_log.specs.LinesState.{LinesState as State};
-ghost use Rattle.candump_log.specs.NextLine.{NextLine, NextOn, IsAtEnd, IsAtLimit, unrouted};
+ghost use Rattle.candump_log.specs.LinesState.{LinesState as State, fresh, log_of};
+ghost use Rattle.candump_log.specs.NextLine.{NextLine, NextOn, HasEnded, HasStopped};
+ghost use Rattle.candump_log.specs.NextLine.{IsAtEnd, IsAtLimit, unrouted};
+ghost use Rattle.candump_log.specs.Reads.{Reads};
 
 /// Each text says one thing as a line of a log, within its limits, and its interface stands at one place, at
 /// none in a bad line: what is read piece by piece.
@@ -24,6 +28,15 @@ pub fn one_line()
     ensures interface { (text : List ℕ) (place : Place) → (interface_of text ≡ Some place)
         ↔ IsInterface text place }
     ensures no_interface { (text : List ℕ) → (interface_of text ≡ None) ↔ IsLine text Bad }
+{}
+
+/// The place of a line among names is that of the first name equal to its interface, and there is none exactly
+/// for a bad line and where no name is equal.
+pub fn place_among_names()
+    ensures some { (names : List (List ℕ)) (text : List ℕ) (place : ℕ) → (place_of names text ≡ Some place)
+        ↔ ((word : List ℕ) × HasInterface text word × IsFirstName names word place) }
+    ensures none { (names : List (List ℕ)) (text : List ℕ) → (place_of names text ≡ None)
+        ↔ (IsLine text Bad ⊎ ((word : List ℕ) × HasInterface text word × IsNoName names word)) }
 {}
 
 /// Bytes are their whole lines, each with its line feed, and a rest without one, which is the last of all
@@ -45,4 +58,23 @@ pub fn next_with_names()
         → NextLine before answer now → (answer ≡ Err TooLong) ↔ IsAtLimit before now }
     ensures ended { (before now : State) (answer : Result (Option Line) Refused)
         → NextLine before answer now → before.ready ≡ false → before.source.ended ≡ true → answer ≡ Ok None }
+{}
+
+/// What a run of calls has read of a log: each line that comes is the next of its texts, at the end they are the
+/// texts of all its lines, where it stopped those of the whole lines taken, and at any moment its first.
+pub fn lines_read()
+    ensures made { (made : State) → made ≡ fresh made.source made.other → log_of made ≡ made.source.left
+        → Reads made made [] }
+    ensures line { (made before now : State) (read : List (List ℕ)) (line : Line) → Reads made before read
+        → NextLine before (Ok (Some line)) now
+        → (text : List ℕ) × (line ≡ line_of text) × Reads made now (read ++ text ∷ []) }
+    ensures end { (made before now : State) (read : List (List ℕ)) → Reads made before read
+        → NextLine before (Ok None) now
+        → Reads made now read × HasEnded now × IfSome made.source.left (λ bytes. read ≡ all_lines bytes) }
+    ensures fault { (made before now : State) (read : List (List ℕ)) (why : Refused) → Reads made before read
+        → NextLine before (Err why) now
+        → (r : Reads made now read) × HasStopped now
+        × IfSome made.source.left (λ _. read ≡ whole_lines r.took) }
+    ensures moment { (made now : State) (read : List (List ℕ)) → Reads made now read
+        → (unread : List (List ℕ)) × IfSome made.source.left (λ bytes. read ++ unread ≡ all_lines bytes) }
 {}

@@ -23,7 +23,7 @@ mod routing;
 mod stamp;
 mod steps;
 
-pub use laws::{lines_of_bytes, next_with_names, one_line};
+pub use laws::{lines_of_bytes, lines_read, next_with_names, one_line, place_among_names};
 pub use lines::{Lines, NoLines};
 pub use log_line::{LogLine, Span, interface, line};
 pub use payload::Payload;

@@ -2,7 +2,7 @@
 ghost use Rattle.std.specs.Prelude.{◌≡◌, ◌≤◌, ◌^◌, ◌↔◌, true, false, length, IsSome, IfSome, IfOk, IsOkAnd, IfErr};
 ghost use Rattle.candump_log.specs.Line.{KeepsLimits};
 ghost use Rattle.candump_log.specs.LinesState.{told, fresh, log_of, log_limit};
-ghost use Rattle.candump_log.specs.NextLine.{NextLine, NextOn, IsAtEnd, IsAtLimit};
+ghost use Rattle.candump_log.specs.NextLine.{NextLine, NextOn, IsFront, IsAtEnd, IsAtLimit};
 
 use crate::held::Held;
 use crate::log_line::LogLine;
@@ -132,6 +132,8 @@ impl<S: Source> Lines<S> {
     pub fn taken(&self) -> u64
         ensures value { result ≡ self.now.taken }
         ensures limit { result ≤ log_limit }
+        ensures given { self.now.given ≤ result }
+        ensures front { IsFront self.now.texts (log_of self.now) }
     {
         self.place.taken
     }

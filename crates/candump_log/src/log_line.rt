@@ -100,6 +100,17 @@ pub(crate) fn read_line(text: &[u8]) -> Option<(Span, LogLine)>
 }
 
 /// What a text says as a line of a log, without its line feed. It refuses nothing.
+///
+/// - `(1.000002) can0 123#A00F`: 3 digits are an 11-bit identifier; the bytes A0 0F at 1,000,002 microseconds.
+/// - `(1.000000) can0 18FEF100#`: 8 digits are a 29-bit identifier; no bytes.
+/// - `(1.000000) can0 123#11.22.33`: a dot may stand between two bytes; the bytes 11 22 33.
+/// - `(1.000000) can0 123#1122334455667788_9`: a length code behind the bytes says nothing more.
+/// - `(1.000000) can0 123#R`: a remote frame.
+/// - `(1.000000) can0 123#R7_f`: a remote frame, too; its length and its length code are passed over.
+/// - `(1.000000) can0 123##1AABB`: a CAN FD frame; its flags 1 are passed over, the bytes are AA BB.
+/// - `(1.000000) can0 20000004#0000000000000000`: bit 29 is an error frame's, here 0x20000004.
+/// - `(1.000000) can0 123#01 T R`: further words behind a blank are passed over.
+/// - `(1.000000) can0 800#01`: a bad line, as all others: 3 digits are at most 7FF.
 #[tactic(auto, unfolding(crate::specs::LineOf::line_of))]
 pub fn line(bytes: &[u8]) -> LogLine
     ensures value { result ≡ line_of bytes.now }

@@ -1,15 +1,16 @@
 //! What no clause says: that the forms of the format are read so, that a log comes out the same whatever its
 //! reads, and that the values may go to another thread.
-ghost use Rattle.std.specs.Prelude.{◌≤◌};
 
 mod cases;
 mod error_frames;
+mod streams;
+mod table;
 
 use crate::*;
 use bench_model::Text;
 use cases::{CASES, Case, LENGTHS, Want};
 use error_frames::ERROR_FRAMES;
-use port_io::{MemSource, read_source};
+use port_io::{MemSource, Source};
 use std::alloc::Global;
 use std::process::Abort;
 use std::test::Fail;
@@ -92,166 +93,19 @@ fn padded(alloc: Global, len: usize, fill: u8) -> Result<Vec<u8>, Fail> {
     Ok(text)
 }
 
+/// A text of 512 bytes is a frame, and one of 513 a bad line, whatever fills them.
+fn assert_longest(rt: &impl Abort, alloc: Global, fill: u8) -> Result<(), Fail> {
+    let frame = Want::Frame(1_000_000, false, 0x100, &[0x00]);
+    assert!(rt; says(&line(&padded(alloc, 512, fill)?), &frame));
+    assert!(rt; says(&line(&padded(alloc, 513, fill)?), &Want::Bad));
+    Ok(())
+}
+
 #[test]
 fn a_line_has_512_bytes_at_most(rt: HostRuntime) -> Result<(), Fail> {
-    let alloc = rt.alloc();
-    let frame = Want::Frame(1_000_000, false, 0x100, &[0x00]);
     for fill in [b'a', b'Z', b' ', b'\r'] {
-        let (most, over) = (padded(alloc, 512, fill)?, padded(alloc, 513, fill)?);
-        assert!(rt; says(&line(&most), &frame));
-        assert!(rt; says(&line(&over), &Want::Bad));
-        // The longest and one more as whole lines and as the last line, without its line feed.
-        for (last, want) in [(&most, &frame), (&over, &Want::Bad)] {
-            let mut bytes = Vec::new(alloc);
-            for text in [&most, &over, last] {
-                if bytes.len() > 0 {
-                    bytes.push(b'\n')?;
-                }
-                bytes.extend_from_slice(text)?;
-            }
-            let (lines, why) = all_lines(&rt, alloc, &bytes, 100, &[])?;
-            assert!(rt; why.is_none());
-            match lines.as_slice() {
-                [first, second, third] => {
-                    assert!(rt; says(first, &frame));
-                    assert!(rt; says(second, &Want::Bad));
-                    assert!(rt; says(third, want));
-                }
-                _ => panic!(rt; "{} lines", lines.len()),
-            }
-        }
+        assert_longest(&rt, rt.alloc(), fill)?;
     }
-    Ok(())
-}
-
-/// All lines of these bytes, and why no more came.
-fn all_lines(
-    rt: &impl Abort,
-    alloc: Global,
-    bytes: &[u8],
-    step: usize,
-    fails: &[u64],
-) -> Result<(Vec<LogLine>, Option<LinesRefused>), Fail>
-    requires { 1 ≤ step }
-{
-    let source = MemSource::new(bytes.to_vec(alloc)?, step, fails.to_vec(alloc)?);
-    let Ok(mut lines) = Lines::new(alloc, source) else {
-        panic!(rt; "out of memory");
-    };
-    let mut all = Vec::new(alloc);
-    for _ in 0..u64::MAX {
-        if lines.failed() {
-            break;
-        }
-        match lines.next() {
-            Ok(Some(line)) => all.push(line)?,
-            Ok(None) => return Ok((all, None)),
-            Err(why) => return Ok((all, Some(why))),
-        }
-    }
-    Ok((all, None))
-}
-
-/// The cases as a log, two lines that are too long before them, and no line feed at its end.
-fn log(alloc: Global) -> Result<Vec<u8>, Fail> {
-    let mut bytes = Vec::new(alloc);
-    for len in [600, 70_000] {
-        for _ in 0..len {
-            bytes.push(b'a')?;
-        }
-        bytes.push(b'\n')?;
-    }
-    for (i, case) in CASES.iter().enumerate() {
-        if i > 0 {
-            bytes.push(b'\n')?;
-        }
-        bytes.extend_from_slice(case.text)?;
-    }
-    Ok(bytes)
-}
-
-/// The lines are two bad ones, and then the first cases.
-fn assert_first_cases(rt: &impl Abort, lines: &[LogLine], cases: &[Case]) {
-    for (i, line) in lines.iter().enumerate() {
-        if i < 2 {
-            assert!(rt; says(line, &Want::Bad));
-        } else {
-            match cases.get(i - 2) {
-                Some(case) => assert!(rt; says(line, &case.want), "line {i} is {line:?}"),
-                None => panic!(rt; "line {i} is one too many"),
-            }
-        }
-    }
-}
-
-#[test]
-fn a_log_has_the_same_lines_whatever_its_reads(rt: HostRuntime) -> Result<(), Fail> {
-    let alloc = rt.alloc();
-    let bytes = log(alloc)?;
-    for step in [1, 2, 3, 46, 511, 512, 513, 65_536] {
-        if step > 0 {
-            let (none, why) = all_lines(&rt, alloc, &[], step, &[])?;
-            assert!(rt; why.is_none() && none.is_empty());
-            let (lines, why) = all_lines(&rt, alloc, &bytes, step, &[])?;
-            assert!(rt; why.is_none());
-            assert_eq!(rt;
-                lines.len().saturating_sub(2),
-                CASES.len(),
-                "at {step} a read"
-            );
-            assert_first_cases(&rt, &lines, &CASES);
-        }
-    }
-    Ok(())
-}
-
-#[test]
-fn a_read_that_fails_leaves_the_lines_before_it(rt: HostRuntime) -> Result<(), Fail> {
-    let alloc = rt.alloc();
-    let bytes = b"(1.000000) can0 100#01\n(1.000000) can0 100#02\n(1.000000) can0 100#03\n";
-    // The failing read of 23 bytes each; the lines before it.
-    for (failing, before) in [(0, 0), (1, 1), (2, 2), (3, 3)] {
-        let (lines, why) = all_lines(&rt, alloc, bytes, 23, &[failing])?;
-        assert_eq!(rt; why, Some(LinesRefused::ReadFault));
-        assert_eq!(rt; lines.len(), before);
-    }
-    // The failing read of 30 bytes each: a line that came in part is not given.
-    for (failing, before) in [(1, 1), (2, 2), (3, 3)] {
-        let (lines, why) = all_lines(&rt, alloc, bytes, 30, &[failing])?;
-        assert_eq!(rt; why, Some(LinesRefused::ReadFault));
-        assert_eq!(rt; lines.len(), before);
-    }
-    Ok(())
-}
-
-#[test]
-fn a_line_stands_ready_where_it_was_read(rt: HostRuntime) -> Result<(), Fail> {
-    let alloc = rt.alloc();
-    let bytes = b"(1.000000) can0 100#01\n(1.000000) can0 100#02\nx";
-    let source = MemSource::new(bytes.to_vec(alloc)?, 65_536, Vec::new(alloc));
-    let Ok(mut lines) = Lines::new(alloc, source) else {
-        panic!(rt; "out of memory");
-    };
-    // Whether a line stands ready before the call, and whether the call gives one: none again after the end.
-    for (ready, some) in [
-        (false, true),
-        (true, true),
-        (false, true),
-        (false, false),
-        (false, false),
-    ] {
-        if !lines.failed() {
-            assert_eq!(rt; lines.ready(), ready);
-            match lines.next() {
-                Ok(line) => assert_eq!(rt; line.is_some(), some),
-                Err(why) => panic!(rt; "{why:?}"),
-            }
-            assert_eq!(rt; lines.taken(), 47);
-        }
-    }
-    // The source comes back at its end, so a reader of what it has left finds nothing.
-    let bytes = read_source(alloc, &mut lines.into_source(), 9).expect(&rt, "the end");
-    assert_eq!(rt; bytes.len(), 0);
     Ok(())
 }
 
@@ -294,10 +148,14 @@ fn a_line_goes_to_the_first_name_of_its_interface(rt: HostRuntime) -> Result<(),
 
 fn crosses<T: Send + Drop>() {}
 
+fn lines_cross<S: Source + Send + Drop>() {
+    crosses::<Lines<S>>();
+    crosses::<NoLines<S>>();
+}
+
 #[test]
 fn all_may_go_to_another_thread() {
-    crosses::<Lines<MemSource>>();
-    crosses::<NoLines<MemSource>>();
+    lines_cross::<MemSource>();
     crosses::<LogLine>();
     crosses::<Routed>();
     crosses::<Payload>();

@@ -1,7 +1,7 @@
 //! Lines and what they say, by the format of candump.
 
 /// What a line says: its microseconds, its identifier and its bytes.
-#[derive(Drop)]
+#[derive(Clone, Copy)]
 pub enum Want {
     Frame(u64, bool, u32, &'static [u8]),
     Remote(u64, bool, u32),
@@ -225,7 +225,9 @@ pub const CASES: [Case; 73] = [
         want: Want::Bad,
     },
     Case {
-        text: b"(1.000000) can0 100##0000102030405060708090A0B0C0D0E0F101112131415161718191A1B1C1D1E1F202122232425262728292A2B2C2D2E2F303132333435363738393A3B3C3D3E3F",
+        text: b"(1.000000) can0 100##0000102030405060708090A0B0C0D0E0F101112131415161718191A1B1C1D1E1\
+            F202122232425262728292A2B2C2D2E2F303132333435363738393A3B3C3D3E3\
+            F",
         want: Want::Frame(
             1000000,
             false,
@@ -240,7 +242,9 @@ pub const CASES: [Case; 73] = [
         ),
     },
     Case {
-        text: b"(1.000000) can0 100##00000000000000000000000000000000000000000000000000000000000000000000000000000000000000000000000000000000000000000000000000000000000",
+        text: b"(1.000000) can0 100##0000000000000000000000000000000000000000000000000000000000000000\
+            0000000000000000000000000000000000000000000000000000000000000000\
+            000",
         want: Want::Bad,
     },
     Case {
