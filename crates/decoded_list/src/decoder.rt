@@ -1,15 +1,32 @@
 //! The records of a bus, line by line.
 
-ghost use Rattle.std.specs.Prelude.{◌≡◌, ◌<◌, ◌⊎◌, ◌+◌, ◌^◌, ◌∷◌, [], ◌++◌, List, length, All, IfOk, OnOk, OnErr};
+ghost use Rattle.std.specs.Prelude.{
+  ◌≡◌,
+  ◌<◌,
+  ◌⊎◌,
+  ◌+◌,
+  ◌^◌,
+  ◌∷◌,
+  [],
+  ◌++◌,
+  List,
+  length,
+  All,
+  IfOk,
+  OnOk,
+  OnErr,
+};
 ghost use Rattle.bench_model.specs.Check.{IsValid};
 ghost use Rattle.bench_model.specs.Meaning.{bench_meaning};
 ghost use Rattle.candump_log.specs.declared.log_line.LogLine.{LogLine};
-ghost use Rattle.decoded_list.specs.Records.{stamp_of, heard_at, brought_on, records_at};
-ghost use Rattle.decoded_list.specs.RecordsView.{record_list, IsFrame};
+ghost use Rattle.decoded_list.specs.Records.{Meaning, stamp_of, heard_at, brought_on, records_at};
+ghost use Rattle.decoded_list.specs.RecordsView.{record_list, IsFrame, BeginsMessage};
+ghost use Rattle.decoded_list.specs.Asking.{IsSaidOf, IsSaidOfMessage};
 ghost use Rattle.decoded_list.specs.Listening.{Listens, HasTaken};
 
+use crate::asking::{said_of, said_of_message};
 use crate::bodies::{own_body, transport_body};
-use bench_model::{Bench, Body, Kind, Reading};
+use bench_model::{Bench, Body, Kind, Plain, Reading};
 use candump_log::LogLine;
 use j1939_tp::{Listener, TpOut};
 use std::alloc::{AllocError, Global};
@@ -55,6 +72,7 @@ pub fn listen(kind: Kind, listener: &mut Listener, line: &LogLine) -> Result<TpO
     ensures elsewhere { (kind ≡ Kind.J1939) ⊎ (listener.new ≡ listener.old) }
     ensures unheard { heard_at line.now ≡ [] → listener.new ≡ listener.old }
     ensures quiet { IsFrame line.now ⊎ (result ≡ Ok TpOut.Nothing) }
+    ensures memory { OnErr result (BeginsMessage kind line.now) }
 {
     match line {
         LogLine::Frame {
@@ -108,7 +126,8 @@ impl BusDecoder {
         ensures records { (before : List LogLine) → HasTaken self.old before
             → IfOk result (λ records. record_list records ≡ records_at (bench_meaning bench.now self.old.bus) self.old.kind
             (record { bus = self.old.bus; version = version }) before self.old.next line.now) }
-        ensures taken { (before : List LogLine) → HasTaken self.old before → OnOk result (HasTaken self.new (before ++ line.now ∷ [])) }
+        ensures taken { (before : List LogLine) → HasTaken self.old before
+            → OnOk result (HasTaken self.new (before ++ line.now ∷ [])) }
         ensures next { IfOk result (λ records. self.new.next ≡ self.old.next + length (record_list records)) }
 
         ensures memory { (before : List LogLine) → HasTaken self.old before
@@ -120,14 +139,56 @@ impl BusDecoder {
         ensures elsewhere { (self.old.kind ≡ Kind.J1939) ⊎ (self.new.listener ≡ self.old.listener) }
         ensures unheard { heard_at line.now ≡ [] → self.new.listener ≡ self.old.listener }
     {
+        let bus = self.bus;
+        let said = said_of(self.alloc, bench, bus, line)?;
+        let brought = self.hear(line)?;
+        let whole = said_of_message(self.alloc, bench, bus, &brought)?;
+        self.records(version, line, said, brought, whole)
+    }
+
+    /// What the transport protocol brings at the next line, which is taken. Then its records are made by `records`.
+    pub fn hear(&mut self, line: &LogLine) -> Result<TpOut, AllocError>
+        ensures brought { (before : List LogLine) → HasTaken self.old before
+            → IfOk result (λ out. out ≡ brought_on self.old.kind before line.now) }
+        ensures taken { (before : List LogLine) → HasTaken self.old before
+            → OnOk result (HasTaken self.new (before ++ line.now ∷ [])) }
+        ensures unchanged { OnErr result (self.new ≡ self.old) }
+        ensures memory { OnErr result (BeginsMessage self.old.kind line.now) }
+        ensures quiet { IsFrame line.now ⊎ (result ≡ Ok TpOut.Nothing) }
+        ensures same { self.new ≡ record self.old { listener = self.new.listener } }
+        ensures elsewhere { (self.old.kind ≡ Kind.J1939) ⊎ (self.new ≡ self.old) }
+        ensures unheard { heard_at line.now ≡ [] → self.new ≡ self.old }
+    {
+        listen(self.kind, &mut self.listener, line)
+    }
+
+    /// The records of a line, where `said` is what the databases say to it, `brought` what the transport protocol
+    /// brings at it, and `whole` what the databases say to that. They may be asked in any way: of a bench, or of words
+    /// that encode one. Out of memory comes at frames of data alone, and no record has been numbered then.
+    pub fn records(
+        &mut self,
+        version: u32,
+        line: &LogLine,
+        said: Option<Plain>,
+        brought: TpOut,
+        whole: Option<Plain>,
+    ) -> Result<Records, AllocError>
+        requires room { self.old.next + 2 < 2 ^ 64 }
+        ensures records { (meaning : Meaning) (before : List LogLine) → IsSaidOf meaning line.now said
+            → brought ≡ brought_on self.old.kind before line.now → IsSaidOfMessage meaning brought whole
+            → IfOk result (λ records. record_list records ≡ records_at meaning self.old.kind
+            (record { bus = self.old.bus; version = version }) before self.old.next line.now) }
+        ensures next { IfOk result (λ records. self.new.next ≡ self.old.next + length (record_list records)) }
+        ensures same { self.new ≡ record self.old { next = self.new.next } }
+        ensures unnumbered { OnErr result (self.new ≡ self.old) }
+        ensures frame { OnErr result (IsFrame line.now) }
+    {
         let micros = stamp_of(line);
-        let own = own_body(self.alloc, bench, self.bus, line)?;
-        let brought = listen(self.kind, &mut self.listener, line)?;
-        let transported = transport_body(self.alloc, bench, self.bus, brought)?;
+        let own = own_body(self.alloc, line, said)?;
         let own = self.number(version, micros, own);
         Ok(Records {
             own,
-            transported: match transported {
+            transported: match transport_body(self.alloc, brought, whole) {
                 Some(body) => Some(self.number(version, micros, body)),
                 None => None,
             },
@@ -137,7 +198,13 @@ impl BusDecoder {
     /// The next record.
     fn number(&mut self, version: u32, micros: u64, body: Body) -> Reading
         requires { self.old.next + 1 < 2 ^ 64 }
-        ensures record { result ≡ record { bus = self.old.bus; number = self.old.next; version = version; micros = micros; body = body } }
+        ensures record { result ≡ record {
+          bus = self.old.bus;
+          number = self.old.next;
+          version = version;
+          micros = micros;
+          body = body;
+        } }
         ensures next { self.new ≡ record self.old { next = self.old.next + 1 } }
     {
         let number = self.next;

@@ -4,10 +4,12 @@
 //! what bytes mean; here is the one definition of the list that they give together, and the plain step that gives the
 //! records of one line. `bus_text` takes a step a line, and faster decoders are to be held to it.
 //!
-//! Main theorem: whatever lines came before, `BusDecoder::step` gives exactly the records of the next line in the decoded list, its
-//! own and on a J1939 bus that of the message which its frame completes or breaks off, unless memory runs out.
+//! Main theorem: whatever lines came before, `BusDecoder::step` gives exactly the records of the next line in the
+//! decoded list, its own and on a J1939 bus that of the message which its frame completes or breaks off, unless memory
+//! runs out. Its two halves, `hear` and `records`, say the same of databases that are asked in another way.
 #![tactic(auto)]
 
+mod asking;
 mod bodies;
 mod decoder;
 mod laws;

@@ -8,6 +8,7 @@ use crate::{BusDecoder, Records};
 use bench_model::*;
 use candump_log::{LogLine, line};
 use exact_scale::Decimal;
+use j1939_tp::TpOut;
 use multiplex_tree::{List, Mark, resolve};
 use std::alloc::{AllocError, Global};
 use std::process::Abort;
@@ -378,6 +379,27 @@ fn have_records(rt: &impl Abort, alloc: Global, cases: &[Case]) -> Result<(), Fa
 #[test]
 fn worked_logs_have_their_records(rt: HostRuntime) -> Result<(), Fail> {
     have_records(&rt, rt.alloc(), CASES)
+}
+
+#[test]
+fn a_step_in_two_halves_takes_what_was_said(rt: HostRuntime) -> Result<(), Fail> {
+    let alloc = rt.alloc();
+    let mut decoder = BusDecoder::new(alloc, 3, Kind::J1939);
+    let announced = line(ANNOUNCED.as_bytes());
+    let brought = decoder.hear(&announced)?;
+    assert!(rt; matches!(brought, TpOut::Nothing));
+    assert_eq!(rt; decoder.next_number(), 0);
+    let said = Some(Plain {
+        name: Text::of(alloc, b"Said")?,
+        signals: List::of(Vec::new(alloc)),
+    });
+    let Records { own, transported } = decoder.records(7, &announced, said, brought, None)?;
+    let mut text = String::new(alloc);
+    write_record(alloc, &own, &mut text)?;
+    assert_eq!(rt; text.as_str(), "0v7 1000000 message Said; ");
+    assert!(rt; transported.is_none());
+    assert_eq!(rt; own.bus, 3);
+    Ok(())
 }
 
 /// Such a value may go to a worker and come back from one.
