@@ -10,7 +10,8 @@ use Rattle.std.proofs.lemmas.List.Folds.{list_all-append}
 use Rattle.byte_forms.specs.Hexadecimal.{hex_digit, hex_digits}
 use Rattle.exact_scale.specs.Digits.{decimal_digits, last_digits}
 use Rattle.exact_scale.specs.ShortestText.{minus_of, without_last_zeros, point_text, size_text, decimal_text}
-use Rattle.subscriber_text.specs.ItemText.{behind_blank, hex_bytes, quoted_byte, quoted}
+use Rattle.text_words.specs.SpacedWords.{behind_blank}
+use Rattle.subscriber_text.specs.ItemText.{hex_bytes, quoted_byte, quoted}
 use Rattle.subscriber_text.specs.Parts.{no_feed}
 
 -- two pieces

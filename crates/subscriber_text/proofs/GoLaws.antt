@@ -12,7 +12,7 @@ use Rattle.byte_forms.specs.Lines.{onto_first, all_lines, IsCut}
 use Rattle.subscriber_text.specs.WantLines.{line_words}
 use Rattle.subscriber_text.specs.Parts.{fed_lines, without_feed, no_feed}
 use Rattle.subscriber_text.specs.declared.before_go.Asking.TheVariants.{Go}
-use Rattle.subscriber_text.specs.BeforeGo.{is_go_alone, has_feed, is_go, before_go, bytes_of, counts_last, without_go, asking_of, wants_before_go}
+use Rattle.subscriber_text.specs.BeforeGo.{is_go_alone, has_feed, is_go, before_go, bytes_of, counts_last, without_go, heard_of, heard, asking_of, wants_before_go}
 use Rattle.subscriber_text.proofs.PartLaws.{fed_lines-line, without_feed-line}
 
 onto_bytes : (b : ℕ) (lines : List (List ℕ)) → bytes_of (onto_first b lines) ≡ b ∷ bytes_of lines
@@ -212,17 +212,17 @@ read_line last bytes rest line after count test r f e other shorter = record {
 -- that line stands behind the lines read
 pub found_go : (bytes rest line after : List ℕ) (ended last : Bool) (count : ℕ) (test : Bool) → last ≡ counts_last bytes ended → ReadTo last bytes rest count → Fed rest line after
     → test ≡ ((nat_lt (length line) (length rest) || last) && is_go_alone (line_words line)) → test ≡ true → Go (length bytes - length rest) ≡ wants_before_go bytes ended
-unfolding wants_before_go
+unfolding heard
 found_go bytes rest line after ended last count test same r f e found =
     let go : before_go last (fed_lines bytes) ≡ Some (r.done ++ []) =
     r.go ∙ ap (λ ls. option_map (λ b. r.done ++ b) (before_go last ls)) f.parted ∙ ap (option_map (λ b. r.done ++ b)) (go_now last f.fed (fed_lines after) (judged last rest line after f test e ∙ found)) in
     let wants : length bytes - length rest ≡ length (bytes_of (r.done ++ [])) = omega (arith, r.size, ap (λ ls. length (bytes_of ls)) (append-nil r.done)) in
-    ap (λ n. Go n) wants ∙ ap (λ o. asking_of o bytes ended) (sym go ∙ ap (λ l. before_go l (fed_lines bytes)) same)
+    ap (λ n. Go n) wants ∙ ap (λ o. asking_of (heard_of o bytes ended)) (sym go ∙ ap (λ l. before_go l (fed_lines bytes)) same)
 
 -- no line is that one
-pub all_read : (bytes rest : List ℕ) (ended last : Bool) (count : ℕ) → last ≡ counts_last bytes ended → rest ≡ [] → ReadTo last bytes rest count → (count ≡ length (fed_lines bytes)) × (without_go bytes ended ≡ wants_before_go bytes ended)
-unfolding wants_before_go before_go fed_lines
+pub all_read : (bytes rest : List ℕ) (ended last : Bool) (count : ℕ) → last ≡ counts_last bytes ended → rest ≡ [] → ReadTo last bytes rest count → (count ≡ length (fed_lines bytes)) × (asking_of (without_go bytes ended) ≡ wants_before_go bytes ended)
+unfolding heard before_go fed_lines
 all_read bytes rest ended last count same none r = (
   r.numbered ∙ ap length (sym (append-nil r.done) ∙ ap (λ t. r.done ++ fed_lines t) (sym none) ∙ sym r.parted),
-  ap (λ o. asking_of o bytes ended) (sym (r.go ∙ ap (λ t. option_map (λ b. r.done ++ b) (before_go last (fed_lines t))) none) ∙ ap (λ l. before_go l (fed_lines bytes)) same),
+  ap (λ o. asking_of (heard_of o bytes ended)) (sym (r.go ∙ ap (λ t. option_map (λ b. r.done ++ b) (before_go last (fed_lines t))) none) ∙ ap (λ l. before_go l (fed_lines bytes)) same),
 )

@@ -20,7 +20,8 @@ use Rattle.bench_model.specs.declared.reading.Item.{Item}
 use Rattle.bench_model.specs.declared.reading.Item.TheVariants as item
 use Rattle.text_words.specs.Words.{words_of}
 use Rattle.subscriber_text.specs.Wants.{WantList, wants_by, wants_bus, names_bus, wants_record, wants_signal}
-use Rattle.subscriber_text.specs.ItemText.{line_of, behind_blank, hex_bytes, key_text, quoted, label_words, signal_line, cause_text, name_or_dash, message_of, signals_of, record_words, signal_lines, record_text, stamps_of, gap_words, bus_name, wants_reading, item_text, items_text}
+use Rattle.text_words.specs.SpacedWords.{behind_blank}
+use Rattle.subscriber_text.specs.ItemText.{line_of, hex_bytes, key_text, quoted, label_words, signal_line, cause_text, name_or_dash, message_of, signals_of, record_words, signal_lines, record_text, stamps_of, gap_words, bus_name, wants_reading, item_text, items_text}
 use Rattle.subscriber_text.specs.Parts.{fed_lines, first_word, bus_lines, no_feed, is_one_word, AreBusNames, name_is_plain, signals_are_plain, is_plainly_named, bus_of, items_of}
 use Rattle.subscriber_text.proofs.FeedLaws.{plain-append, decimal-plain, signed-plain, hex-plain, hex_bytes-plain, quoted-plain, decimal_text-plain, words-plain}
 use Rattle.subscriber_text.proofs.PartLaws.{word_plain, words-first, bytes_eq-refl, bytes_eq-true, lines-signal, lines-head}

@@ -2,6 +2,7 @@ pub mod QuoteLaws
 pub mod IndexLaws
 pub mod JoinLaws
 pub mod ReadLaws
+pub mod FirstFaultLaws
 pub mod WantLaws
 pub mod RecordLaws
 pub mod FeedLaws
@@ -9,4 +10,5 @@ pub mod PartLaws
 pub mod ItemPartLaws
 pub mod CutLaws
 pub mod GoLaws
+pub mod RequestLaws
 pub mod WantedLaws

@@ -12,7 +12,8 @@ use Rattle.bench_model.specs.declared.reading.Item.{Item}
 use Rattle.bench_model.specs.declared.reading.Item.TheVariants as item
 use Rattle.text_words.specs.Words.{is_empty, words_of}
 use Rattle.subscriber_text.specs.Wants.{Want, WantList, wants_by, same_name, names_bus, names_message, wants_bus, wants_record}
-use Rattle.subscriber_text.specs.ItemText.{behind_blank, quoted, label_words, signal_line, message_of}
+use Rattle.text_words.specs.SpacedWords.{behind_blank}
+use Rattle.subscriber_text.specs.ItemText.{quoted, label_words, signal_line, message_of}
 use Rattle.subscriber_text.specs.ItemText.{bus_name, wants_reading, item_text, items_text}
 use Rattle.subscriber_text.specs.Parts.{fed_lines, first_word, second_word, AreOfWanted, no_feed, is_one_word, AreBusNames}
 use Rattle.subscriber_text.specs.Parts.{signals_are_plain, is_plainly_named, bus_of}

@@ -13,16 +13,8 @@ use Rattle.bench_model.specs.declared.reading.Body.TheVariants as body
 use Rattle.bench_model.specs.declared.reading.Reading.{Reading}
 use Rattle.bench_model.specs.declared.reading.Item.{Item}
 use Rattle.bench_model.specs.declared.reading.Item.TheVariants as item
+use Rattle.text_words.specs.SpacedWords.{text_of_words}
 use Rattle.subscriber_text.specs.Wants.{WantList, wants_bus, wants_record, wants_signal}
-
--- a word behind a blank
-abbrev pub behind_blank : List ℕ → List ℕ
-behind_blank word = 32 ∷ word
-
--- words: the first, and each other one behind a blank
-abbrev pub text_of_words : List (List ℕ) → List ℕ
-text_of_words [] = []
-text_of_words (word ∷ words) = word ++ flat_map behind_blank words
 
 -- a line of words
 abbrev pub line_of : List (List ℕ) → List ℕ
@@ -50,10 +42,6 @@ quoted text = 34 ∷ (flat_map quoted_byte text ++ 34 ∷ [])
 abbrev pub label_words : Option (List ℕ) → List (List ℕ)
 label_words None = []
 label_words (Some label) = quoted label ∷ []
-
--- the same behind a blank
-abbrev pub label_text : Option (List ℕ) → List ℕ
-label_text label = flat_map behind_blank (label_words label)
 
 -- the line of a signal
 abbrev pub signal_line : SignalValue → List ℕ
@@ -100,10 +88,6 @@ begin letter bus r words = letter ∷ bus ∷ decimal r.number ∷ decimal r.ver
 abbrev pub begin_stamped : List ℕ → List ℕ → Reading → List (List ℕ) → List (List ℕ)
 begin_stamped letter bus r words = begin letter bus r (decimal r.micros ∷ words)
 
--- a parameter group number, a source address and a destination address, each behind a blank
-abbrev pub group_text : ℕ → ℕ → ℕ → List ℕ
-group_text pgn sa da = flat_map behind_blank (decimal pgn ∷ decimal sa ∷ decimal da ∷ [])
-
 -- the words of a record's first line, on the bus of this name
 abbrev pub record_words : List ℕ → Reading → Body → List (List ℕ)
 record_words bus r (body.Message name signals) = begin_stamped (codes "m") bus r (name ∷ [])
@@ -132,9 +116,6 @@ record_text w bus r =
 abbrev pub stamps_of : Missed → List (List ℕ)
 stamps_of m =
     decimal m.first_micros ∷ decimal m.last_micros ∷ decimal m.first_version ∷ decimal m.last_version ∷ []
-
-abbrev pub stamps_text : Missed → List ℕ
-stamps_text m = flat_map behind_blank (stamps_of m)
 
 -- the words of a gap, which tell its stamps and versions in format 2
 abbrev pub gap_words : ℕ → List ℕ → Missed → List (List ℕ)

@@ -1,15 +1,15 @@
 //! What a subscriber sends before it is sent anything.
 
-ghost use Rattle.std.specs.Prelude.{◌≡◌, ◌≤◌, ◌&&◌, ◌||◌, nat_lt, length};
+ghost use Rattle.std.specs.Prelude.{◌≡◌, ◌≤◌, ◌&&◌, ◌||◌, ℕ, nat_lt, length};
 ghost use Rattle.subscriber_text.specs.WantLines.{line_words};
 ghost use Rattle.subscriber_text.specs.Parts.{fed_lines};
-ghost use Rattle.subscriber_text.specs.BeforeGo.{before_go_limit, is_go_alone, counts_last, without_go, wants_before_go};
+ghost use Rattle.subscriber_text.specs.BeforeGo.{before_go_limit, is_go_alone, counts_last, without_go, asking_of, wants_before_go};
 
 use byte_forms::next_line;
 use text_words::{next_word, without_return};
 
-/// The most bytes up to the end of the line `GO`.
-const LIMIT: usize = 65_536;
+/// The most bytes up to the end of the line `GO`, that line with its line feed among them.
+pub const BEFORE_GO_LIMIT: usize = 65_536;
 
 /// What the first bytes of a subscriber say: lines of wants, and behind them the line `GO`.
 #[derive(Clone, Copy, Debug, PartialEq, Eq)]
@@ -38,7 +38,7 @@ fn is_go(line: &[u8]) -> bool
 fn counts_last(bytes: &[u8], ended: bool) -> bool
     ensures { result ≡ counts_last bytes.now ended }
 {
-    ended && bytes.len() < LIMIT
+    ended && bytes.len() < BEFORE_GO_LIMIT
 }
 
 /// Whether the first line of a text is `GO`: it has its line feed, or counts without.
@@ -52,9 +52,9 @@ fn begins_with_go(line: &[u8], text: &[u8], last: bool) -> bool
 /// What the first bytes of an input say that have so many lines, none of them `GO`.
 fn without_go(bytes: &[u8], ended: bool, lines: u64) -> Asking
     requires { lines ≡ length (fed_lines bytes.now) }
-    ensures { result ≡ without_go bytes.now ended }
+    ensures { result ≡ asking_of (without_go bytes.now ended) }
 {
-    if bytes.len() >= LIMIT {
+    if bytes.len() >= BEFORE_GO_LIMIT {
         return Asking::Long { n: lines };
     }
     if ended { Asking::Gone } else { Asking::Open }
@@ -63,7 +63,8 @@ fn without_go(bytes: &[u8], ended: bool, lines: u64) -> Asking
 /// What the first bytes of an input say, of which all were given where it has ended.
 pub fn wants_before_go(bytes: &[u8], ended: bool) -> Asking
     requires { length bytes.now ≤ before_go_limit }
-    ensures { result ≡ wants_before_go bytes.now ended }
+    ensures says { result ≡ wants_before_go bytes.now ended }
+    ensures within { (n : ℕ) → result ≡ Asking.Go n → n ≤ length bytes.now }
 {
     let last = counts_last(bytes, ended);
     let mut rest = bytes;

@@ -2,7 +2,8 @@
 
 ghost use Rattle.std.specs.Prelude.{◌≡◌, ◌++◌, [], ◌∷◌, OnOk, OnErr};
 ghost use Rattle.std.specs.Fmt.{decimal};
-ghost use Rattle.subscriber_text.specs.ItemText.{gap_words, stamps_text, line_of, item_text};
+ghost use Rattle.subscriber_text.specs.ItemText.{gap_words, line_of, item_text};
+ghost use Rattle.subscriber_text.specs.LineParts.{stamps_text};
 ghost use Rattle.exact_scale.specs.Buffer.{Extends};
 
 use crate::Wants;

@@ -2,7 +2,8 @@
 //!
 //! `wants_before_go` finds where a subscriber's wants end, `Wants::read` reads them, and `append` and `print`
 //! write the items that they cover, as the tool prints them and a server sends them. It stands on `bench_model`
-//! for the items, on `exact_scale` and `byte_forms` for numbers and lines, and on `port_io` for the sink.
+//! for the items, on `exact_scale`, `byte_forms` and `text_words` for numbers, lines and words, and on `port_io`
+//! for the sink.
 //!
 //! Main theorem: unless memory runs out, `append` adds exactly the text of the item under the wants, and
 //! `Wants::read` gives exactly the wants of the lines, or names the first line that is faulty.
@@ -22,12 +23,13 @@ mod signal;
 mod want;
 mod wants;
 
-pub use before_go::{Asking, wants_before_go};
+pub use before_go::{Asking, BEFORE_GO_LIMIT, wants_before_go};
 pub use fault::{PrintRefused, WantsFault};
 pub use item::append;
 pub use laws::{
     a_prefix_of_items_is_whole_but_for_the_last, each_line_is_of_a_wanted_bus,
-    the_part_of_a_bus_is_the_text_of_its_items, the_rest_behind_the_header_is_one,
+    the_first_faulty_line_decides, the_part_of_a_bus_is_the_text_of_its_items,
+    the_rest_behind_the_header_is_one, the_wants_before_go_are_what_is_asked,
     the_wants_end_at_the_first_go,
 };
 pub use printing::{header, print};

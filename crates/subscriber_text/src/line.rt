@@ -1,21 +1,13 @@
 //! Lines of words, appended to a buffer.
 
 ghost use Rattle.std.specs.Prelude.{◌∷◌, ◌≡◌, ◌++◌, OnOk};
-ghost use Rattle.subscriber_text.specs.ItemText.{behind_blank, text_of_words, line_of};
+ghost use Rattle.text_words.specs.SpacedWords.{text_of_words};
+ghost use Rattle.subscriber_text.specs.ItemText.{line_of};
 ghost use Rattle.subscriber_text.specs.WantView.{texts};
 ghost use Rattle.exact_scale.specs.Buffer.{Extends};
 
 use std::alloc::AllocError;
-
-/// Appends a blank and a word.
-pub(crate) fn append_word(out: &mut Vec<u8>, word: &[u8]) -> Result<(), AllocError>
-    ensures ok { OnOk result (out.new.items ≡ out.old.items ++ behind_blank word.now) }
-    ensures grows { Extends out.old.items out.new.items }
-{
-    out.push(b' ')?;
-    out.extend_from_slice(word)?;
-    Ok(())
-}
+use text_words::append_word;
 
 /// Appends words, parted by single blanks.
 pub(crate) fn append_words(

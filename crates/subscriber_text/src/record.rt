@@ -5,18 +5,21 @@ ghost use Rattle.bench_model.specs.declared.reading.Body.TheVariants as Bodies;
 ghost use Rattle.bench_model.specs.declared.reading.Item.TheVariants as Items;
 ghost use Rattle.std.specs.Fmt.{decimal};
 ghost use Rattle.byte_forms.specs.Hexadecimal.{hex_digits};
-ghost use Rattle.subscriber_text.specs.ItemText.{hex_bytes, key_text, cause_text, begin_stamped, group_text, name_or_dash, message_of, signals_of, record_words, text_of_words, line_of, item_text};
+ghost use Rattle.subscriber_text.specs.LineParts.{group_text};
+ghost use Rattle.text_words.specs.SpacedWords.{text_of_words};
+ghost use Rattle.subscriber_text.specs.ItemText.{hex_bytes, key_text, cause_text, begin_stamped, name_or_dash, message_of, signals_of, record_words, line_of, item_text};
 ghost use Rattle.subscriber_text.specs.WantView.{name_of};
 ghost use Rattle.exact_scale.specs.Buffer.{Extends};
 
 use crate::Wants;
 use crate::bytes::append_hex;
-use crate::line::{append_line, append_word, append_words};
+use crate::line::{append_line, append_words};
 use crate::signal::append_signals;
 use bench_model::{Body, CutCause, Key, Reading, SignalValue, Text};
 use byte_forms::hex_of_number;
 use itoa::Buffer;
 use std::alloc::AllocError;
+use text_words::append_word;
 
 /// The digits of an identifier out of its eight.
 fn key_digits(key: Key, digits: &[u8; 8]) -> &[u8]

@@ -1,7 +1,9 @@
 //! The lines of signals.
 
 ghost use Rattle.std.specs.Prelude.{◌≡◌, [], ◌∷◌, ◌++◌, OnOk};
-ghost use Rattle.subscriber_text.specs.ItemText.{behind_blank, quoted, signal_line, signal_lines, label_text};
+ghost use Rattle.text_words.specs.SpacedWords.{behind_blank};
+ghost use Rattle.subscriber_text.specs.ItemText.{quoted, signal_line, signal_lines};
+ghost use Rattle.subscriber_text.specs.LineParts.{label_text};
 ghost use Rattle.subscriber_text.specs.WantView.{name_of};
 ghost use Rattle.std.specs.Fmt.{signed_decimal};
 ghost use Rattle.exact_scale.specs.Buffer.{Extends};
@@ -9,10 +11,11 @@ ghost use Rattle.exact_scale.specs.ShortestText.{decimal_text};
 
 use crate::Wants;
 use crate::bytes::append_quoted;
-use crate::line::{append_word, append_words};
+use crate::line::append_words;
 use bench_model::{Exact, SignalValue, Text};
 use itoa::Buffer;
 use std::alloc::AllocError;
+use text_words::append_word;
 
 /// Appends a blank and a text in quotation marks.
 fn append_text(out: &mut Vec<u8>, text: &[u8]) -> Result<(), AllocError>

@@ -66,6 +66,15 @@ fn text_of(alloc: Global, wants: &Wants, items: &[Item]) -> Result<Vec<u8>, Allo
     Ok(text)
 }
 
+/// So many lines that want a bus.
+fn lines(alloc: Global, count: u32) -> Result<Vec<u8>, AllocError> {
+    let mut text = Vec::new(alloc);
+    for _ in 0..count {
+        text.extend_from_slice(b"WANT A\n")?;
+    }
+    Ok(text)
+}
+
 /// A vector of one item.
 fn one(alloc: Global, item: Item) -> Result<Vec<Item>, AllocError> {
     let mut items = Vec::new(alloc);

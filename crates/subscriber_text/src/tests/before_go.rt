@@ -95,3 +95,18 @@ fn its_end_stands_among_the_first_65536_bytes(rt: HostRuntime) -> Result<(), Fai
         Asking::Long { n: 65_533 },
     )
 }
+
+/// The first bytes of so many lines that want a bus.
+fn first_of_lines(alloc: Global, count: u32, len: usize) -> Result<Vec<u8>, AllocError> {
+    let mut text = lines(alloc, count)?;
+    text.truncate(len);
+    Ok(text)
+}
+
+#[test]
+fn the_last_byte_that_may_come_stands_in_the_faulty_line(rt: HostRuntime) -> Result<(), Fail> {
+    let text = first_of_lines(rt.alloc(), 9363, 65_536)?;
+    assert!(rt; text.len() <= 65_536);
+    assert_eq!(rt; wants_before_go(&text, false), Asking::Long { n: 9363 });
+    Ok(())
+}

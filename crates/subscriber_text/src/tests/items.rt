@@ -212,3 +212,13 @@ fn printing_tells_a_fault_of_the_sink(rt: HostRuntime) -> Result<(), Fail> {
     assert_eq!(rt; sink.bytes(), b"sigserve 2\nend Aend A 4\n".as_slice());
     Ok(())
 }
+
+#[test]
+fn format_1_has_no_header(rt: HostRuntime) -> Result<(), Fail> {
+    let alloc = rt.alloc();
+    let wants = Wants::all(alloc, &buses(alloc)?)?;
+    let mut sink = MemSink::new(vec![in alloc; 0; 64]?, 5, Vec::new(alloc));
+    assert_eq!(rt; header(&wants, &mut sink), Ok(()));
+    assert!(rt; sink.bytes().is_empty());
+    Ok(())
+}

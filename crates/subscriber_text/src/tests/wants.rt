@@ -55,15 +55,6 @@ fn the_first_faulty_line_decides(rt: HostRuntime) -> Result<(), Fail> {
     reads(&rt, rt.alloc(), TEXTS.as_slice())
 }
 
-/// So many lines that want a bus.
-fn lines(alloc: Global, count: u32) -> Result<Vec<u8>, AllocError> {
-    let mut text = Vec::new(alloc);
-    for _ in 0..count {
-        text.extend_from_slice(b"WANT A\n")?;
-    }
-    Ok(text)
-}
-
 #[test]
 fn a_text_of_65535_bytes_is_read(rt: HostRuntime) -> Result<(), Fail> {
     let alloc = rt.alloc();
@@ -165,6 +156,32 @@ const TRANSPORTED: [(&[u8], &[u8]); 4] = [
 fn wants_cover_a_message_in_packets(rt: HostRuntime) -> Result<(), Fail> {
     let items = lamps(rt.alloc())?;
     covers(&rt, rt.alloc(), &items, TRANSPORTED.as_slice())
+}
+
+#[test]
+fn format_1_has_all_signals_of_a_message_in_packets(rt: HostRuntime) -> Result<(), Fail> {
+    let alloc = rt.alloc();
+    let wants = Wants::all(alloc, &buses(alloc)?)?;
+    let text = text_of(alloc, &wants, &lamps(alloc)?)?;
+    assert_eq!(rt; text.as_slice(), LAMPS);
+    Ok(())
+}
+
+#[test]
+fn a_record_of_a_bus_past_the_names_is_not_wanted(rt: HostRuntime) -> Result<(), Fail> {
+    let alloc = rt.alloc();
+    let reading = Reading {
+        bus: 2,
+        number: 0,
+        version: 0,
+        micros: 0,
+        body: Body::Bad,
+    };
+    let items = one(alloc, Item::Reading { reading })?;
+    let wants = Wants::all(alloc, &buses(alloc)?)?;
+    let text = text_of(alloc, &wants, &items)?;
+    assert!(rt; text.is_empty());
+    Ok(())
 }
 
 /// A start, a gap and an end of a bus.

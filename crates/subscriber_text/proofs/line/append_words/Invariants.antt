@@ -1,6 +1,6 @@
 use Rattle.std.proofs.Common.{◌≡◌, ◌++◌, take}
 use Rattle.std.specs.Prelude.{flat_map}
-use Rattle.subscriber_text.specs.ItemText.{behind_blank}
+use Rattle.text_words.specs.SpacedWords.{behind_blank}
 use Rattle.subscriber_text.specs.WantView.{texts}
 use Rattle.subscriber_text.proofs.line.append_words.Given as goal
 

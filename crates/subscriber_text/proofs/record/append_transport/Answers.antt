@@ -1,7 +1,8 @@
 use Rattle.std.proofs.Common.{[], ◌∷◌}
 use Rattle.std.specs.Fmt.{decimal}
 use Rattle.std.proofs.lemmas.Result.{on_ok_weaker}
-use Rattle.subscriber_text.specs.ItemText.{behind_blank, hex_bytes}
+use Rattle.text_words.specs.SpacedWords.{behind_blank}
+use Rattle.subscriber_text.specs.ItemText.{hex_bytes}
 use Rattle.subscriber_text.proofs.JoinLaws.{transport_joined}
 use Rattle.subscriber_text.proofs.record.append_transport.Goals as goal
 

@@ -5,7 +5,9 @@ use Rattle.std.specs.Fmt.{signed_decimal}
 use Rattle.std.proofs.lemmas.Int.{to_z-of_z}
 use Rattle.std.proofs.lemmas.Result.{on_ok_weaker}
 use Rattle.exact_scale.specs.ShortestText.{decimal_text}
-use Rattle.subscriber_text.specs.ItemText.{behind_blank, quoted, label_text}
+use Rattle.text_words.specs.SpacedWords.{behind_blank}
+use Rattle.subscriber_text.specs.ItemText.{quoted}
+use Rattle.subscriber_text.specs.LineParts.{label_text}
 use Rattle.subscriber_text.proofs.JoinLaws.{signal_joined}
 use Rattle.subscriber_text.proofs.signal.append_signal.Goals as goal
 
