@@ -2,7 +2,7 @@
 use Rattle.std.specs.Prelude.{◌≡◌, ◌⊎◌, ℕ, true, List, [], ◌∷◌, ◌++◌, length, Some, IfSome}
 use Rattle.std.specs.List.{AllZip}
 use Rattle.port_io.specs.OtherSide.{SourceState}
-use Rattle.bus_text.specs.Printing.{TakesBytes}
+use Rattle.candump_log.specs.Reads.{TakesBytes}
 
 -- these logs tell that they have these bytes left
 abbrev pub HaveLeft : List SourceState → List (List ℕ) → Type 0

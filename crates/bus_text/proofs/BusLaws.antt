@@ -10,8 +10,10 @@ use Rattle.candump_log.specs.declared.log_line.LogLine.{LogLine}
 use Rattle.candump_log.specs.declared.place.LinesRefused.{LinesRefused}
 use Rattle.candump_log.specs.declared.place.LinesRefused.TheVariants as lines
 use Rattle.candump_log.specs.LineOf.{line_of}
+use Rattle.candump_log.specs.LogLines.{whole_lines}
 use Rattle.candump_log.specs.LinesState.{LinesState, log_of, fresh}
-use Rattle.candump_log.specs.NextLine.{NextLine, HasEnded, Why}
+use Rattle.candump_log.specs.NextLine.{NextLine, HasEnded, HasStopped, Why}
+use Rattle.candump_log.specs.Reads.{Reads}
 use Rattle.decoded_list.specs.declared.decoder.BusDecoder.{BusDecoder}
 use Rattle.subscriber_text.specs.Wants.{WantList}
 use Rattle.subscriber_text.specs.ItemText.{items_text}
@@ -27,7 +29,6 @@ use Rattle.bus_text.specs.LineView.{line_text, end_text, HasDecoded}
 use Rattle.bus_text.specs.Buffering.{Output, Buffers, Caused, PrintsText}
 use Rattle.bus_text.specs.Printing.{PrintsLines, StopsThere, Ends, PrintsBus}
 use Rattle.bus_text.proofs.BufferLaws.{append_known-nil, buffers_nothing, buffers_then, buffers_as, given_all}
-use Rattle.bus_text.proofs.ReadLaws.{Reads, reads_nothing, reads_line, reads_none, unread, read_all, read_whole}
 
 -- the text of the lines read so far was given
 pub record GoesOn (w : WantList) (bench : Bench) (bus : BusPlace) (l l' : LinesState) (before now : Output) (decoder : BusDecoder) : Type 0 where
@@ -51,12 +52,31 @@ EndBehind = (w : WantList) (bench : Bench) (bus : BusPlace) (lines : List LogLin
 abbrev pub IsPrefix : Type 0
 IsPrefix = (w : WantList) (bench : Bench) (bus : BusPlace) (lines more : List LogLine) → (rest : List ℕ) × (bus_text w bench bus (lines ++ more) ≡ text_so_far w bench bus lines ++ rest)
 
+-- what the law of the lines read says
+abbrev pub MadeReads : Type 0
+MadeReads = (made : LinesState) → made ≡ fresh made.source made.other → log_of made ≡ made.source.left → Reads made made []
+
+abbrev pub LineReads : Type 0
+LineReads = (made before now : LinesState) (read : List (List ℕ)) (line : LogLine) → Reads made before read → NextLine before (Ok (Some line)) now
+    → (text : List ℕ) × (line ≡ line_of text) × Reads made now (read ++ text ∷ [])
+
+abbrev pub EndReads : Type 0
+EndReads = (made before now : LinesState) (read : List (List ℕ)) → Reads made before read → NextLine before (Ok None) now
+    → Reads made now read × HasEnded now × IfSome made.source.left (λ bytes. read ≡ all_lines bytes)
+
+abbrev pub FaultReads : Type 0
+FaultReads = (made before now : LinesState) (read : List (List ℕ)) (why : LinesRefused) → Reads made before read → NextLine before (Err why) now
+    → (r : Reads made now read) × HasStopped now × IfSome made.source.left (λ _. read ≡ whole_lines r.took)
+
+abbrev pub SomeReads : Type 0
+SomeReads = (made now : LinesState) (read : List (List ℕ)) → Reads made now read → (unread : List (List ℕ)) × IfSome made.source.left (λ bytes. read ++ unread ≡ all_lines bytes)
+
 -- before the first line
-pub goes_on_from : NoText → (w : WantList) (bench : Bench) (bus : BusPlace) (l : LinesState) (s : Output) (decoder : BusDecoder) → l ≡ fresh l.source l.other → log_of l ≡ l.source.left
+pub goes_on_from : MadeReads → NoText → (w : WantList) (bench : Bench) (bus : BusPlace) (l : LinesState) (s : Output) (decoder : BusDecoder) → l ≡ fresh l.source l.other → log_of l ≡ l.source.left
     → HasDecoded bench bus decoder [] → decoder.next ≡ 0 → GoesOn w bench bus l l s s decoder
-goes_on_from none w bench bus l s decoder e log d n = record {
+goes_on_from made none w bench bus l s decoder e log d n = record {
   read = [];
-  reads = reads_nothing l e log;
+  reads = made l e log;
   buffers = buffers_as (sym (none w bench bus)) (buffers_nothing s);
   decoded = d;
   numbers = omega (arith, n);
@@ -67,12 +87,12 @@ map_one : (read : List (List ℕ)) (text : List ℕ) (line : LogLine) → line �
 map_one read text line e = ap (λ l. map line_of read ++ l ∷ []) e ∙ sym (map-append line_of read (text ∷ []))
 
 -- one line more was read and printed
-pub goes_on : LineMore → {w : WantList} {bench : Bench} {bus : BusPlace} {l m l' : LinesState} {before mid now : Output} {decoder decoder' : BusDecoder} {line : LogLine} {u : Unit {0}} →
+pub goes_on : LineReads → LineMore → {w : WantList} {bench : Bench} {bus : BusPlace} {l m l' : LinesState} {before mid now : Output} {decoder decoder' : BusDecoder} {line : LogLine} {u : Unit {0}} →
     GoesOn w bench bus l m before mid decoder → NextLine m (Ok (Some line)) l'
     → ((lines : List LogLine) → HasDecoded bench bus decoder lines → PrintsText (line_text w bench bus lines line) mid (Ok u) now)
     → ((lines : List LogLine) → HasDecoded bench bus decoder lines → HasDecoded bench bus decoder' (lines ++ line ∷ []))
     → decoder'.next ≤ decoder.next + 2 → GoesOn w bench bus l l' before now decoder'
-goes_on more {w} {bench} {bus} {l} {m} {l'} {before} {mid} {now} {decoder} {decoder'} {line} g n prints decodes next =
+goes_on reads_line more {w} {bench} {bus} {l} {m} {l'} {before} {mid} {now} {decoder} {decoder'} {line} g n prints decodes next =
     let r = reads_line l m l' g.read line g.reads n in
     let lines = map line_of g.read in
     let same = map_one g.read r.0 line r.1 in
@@ -87,9 +107,9 @@ goes_on more {w} {bench} {bus} {l} {m} {l'} {before} {mid} {now} {decoder} {deco
     }
 
 -- what was given is a prefix of the text of the lines read, and so of that of all lines
-pub prints_prefix : IsPrefix → {w : WantList} {bench : Bench} {bus : BusPlace} {l l' : LinesState} {before now : Output} {read : List (List ℕ)} (given rest : List ℕ) → Reads l l' read
+pub prints_prefix : SomeReads → IsPrefix → {w : WantList} {bench : Bench} {bus : BusPlace} {l l' : LinesState} {before now : Output} {read : List (List ℕ)} (given rest : List ℕ) → Reads l l' read
     → given ++ rest ≡ text_so_far w bench bus (map line_of read) → Buffers before given now → PrintsLines w bench bus l.source l'.source before now
-prints_prefix prefix {w} {bench} {bus} {l} {l'} {before} {now} {read} given rest r parted b =
+prints_prefix unread prefix {w} {bench} {bus} {l} {l'} {before} {now} {read} given rest r parted b =
     let u = unread l l' read r in
     let more = prefix w bench bus (map line_of read) (map line_of u.0) in
     record {
@@ -107,13 +127,13 @@ prints_prefix prefix {w} {bench} {bus} {l} {l'} {before} {now} {read} given rest
     }
 
 -- the same at the end of the log, where all lines were read
-pub prints_ended : {w : WantList} {bench : Bench} {bus : BusPlace} {l l' : LinesState} {before now : Output} {read : List (List ℕ)} (given ahead : List ℕ) → Reads l l' read → HasEnded l'
+pub prints_ended : {w : WantList} {bench : Bench} {bus : BusPlace} {l l' : LinesState} {before now : Output} {read : List (List ℕ)} (given ahead : List ℕ) → Reads l l' read → IfSome l.source.left (λ bytes. read ≡ all_lines bytes)
     → given ++ ahead ≡ bus_text w bench bus (map line_of read) → Buffers before given now → PrintsLines w bench bus l.source l'.source before now
-prints_ended {l = l} {l' = l'} {read = read} given ahead r h parted b = record {
+prints_ended {read = read} given ahead r all parted b = record {
   took = r.took;
   takes = r.takes;
   lines = read;
-  told = read_all l l' read r h;
+  told = all;
   read = read;
   unread = [];
   first = sym (append-nil read);
@@ -132,44 +152,44 @@ caused_since print.WriteFault before mid now l c = omega (arith, l, c)
 caused_since print.Memory before mid now l c = tt
 
 -- a line was not printed whole
-pub stops_in_line : IsPrefix → LineMore → {w : WantList} {bench : Bench} {bus : BusPlace} {l m l' : LinesState} {before mid now : Output} {decoder : BusDecoder} {line : LogLine} (why : PrintRefused) →
+pub stops_in_line : LineReads → SomeReads → IsPrefix → LineMore → {w : WantList} {bench : Bench} {bus : BusPlace} {l m l' : LinesState} {before mid now : Output} {decoder : BusDecoder} {line : LogLine} (why : PrintRefused) →
     GoesOn w bench bus l m before mid decoder → NextLine m (Ok (Some line)) l'
     → ((lines : List LogLine) → HasDecoded bench bus decoder lines → PrintsText (line_text w bench bus lines line) mid (Err why) now)
     → PrintsBus w bench bus l.source l'.source before now (Err (of_print why))
-stops_in_line prefix more {w} {bench} {bus} {l} {m} {l'} {before} {mid} {now} {decoder} {line} why g n prints =
+stops_in_line reads_line unread prefix more {w} {bench} {bus} {l} {m} {l'} {before} {mid} {now} {decoder} {line} why g n prints =
     let r = reads_line l m l' g.read line g.reads n in
     let lines = map line_of g.read in
     let so_far = text_so_far w bench bus lines in
     let p = prints lines g.decoded in
     let parted : (so_far ++ p.given) ++ p.rest ≡ text_so_far w bench bus (map line_of (g.read ++ r.0 ∷ [])) =
     append_assoc so_far p.given p.rest ∙ ap (λ (t : List ℕ). so_far ++ t) p.parted ∙ sym (more w bench bus lines line) ∙ ap (text_so_far w bench bus) (map_one g.read r.0 line r.1) in
-    let all = prints_prefix prefix (so_far ++ p.given) p.rest r.2 parted (buffers_then g.buffers p.buffers) in
+    let all = prints_prefix unread prefix (so_far ++ p.given) p.rest r.2 parted (buffers_then g.buffers p.buffers) in
     record { prints = all; ends = ends_print why all (caused_since why before mid now g.buffers.later p.cause) }
 
 -- the end behind the lines was printed
-pub end_printed : EndBehind → {w : WantList} {bench : Bench} {bus : BusPlace} {l m l' : LinesState} {before mid now : Output} {decoder : BusDecoder} {u : Unit {0}} → GoesOn w bench bus l m before mid decoder
+pub end_printed : EndReads → EndBehind → {w : WantList} {bench : Bench} {bus : BusPlace} {l m l' : LinesState} {before mid now : Output} {decoder : BusDecoder} {u : Unit {0}} → GoesOn w bench bus l m before mid decoder
     → NextLine m (Ok None) l' → PrintsText (items_text w (item.End bus.place decoder.next ∷ [])) mid (Ok u) now → PrintsBus w bench bus l.source l'.source before now (Ok tt)
 unfolding end_text prints_ended
-end_printed end {w} {bench} {bus} {l} {m} {l'} {before} {mid} {now} {decoder} g n p =
-    let r = reads_none l m l' g.read g.reads n.advances n.answer.0 in
+end_printed ends end {w} {bench} {bus} {l} {m} {l'} {before} {mid} {now} {decoder} g n p =
+    let r = ends l m l' g.read g.reads n in
     let lines = map line_of g.read in
     let so_far = text_so_far w bench bus lines in
     let text = items_text w (item.End bus.place decoder.next ∷ []) in
     let whole : (so_far ++ text) ++ [] ≡ bus_text w bench bus lines =
     append-nil (so_far ++ text) ∙ ap (λ (n : ℕ). so_far ++ items_text w (item.End bus.place n ∷ [])) g.decoded.next ∙ sym (end w bench bus lines) in
-    record { prints = prints_ended (so_far ++ text) [] r n.answer.1 whole (buffers_then g.buffers (given_all p)); ends = (refl, n.answer.1.ended, n.answer.1.left) }
+    record { prints = prints_ended (so_far ++ text) [] r.0 r.2 whole (buffers_then g.buffers (given_all p)); ends = (refl, r.1.ended, r.1.left) }
 
-pub stops_at_end : EndBehind → {w : WantList} {bench : Bench} {bus : BusPlace} {l m l' : LinesState} {before mid now : Output} {decoder : BusDecoder} (why : PrintRefused) → GoesOn w bench bus l m before mid decoder
+pub stops_at_end : EndReads → EndBehind → {w : WantList} {bench : Bench} {bus : BusPlace} {l m l' : LinesState} {before mid now : Output} {decoder : BusDecoder} (why : PrintRefused) → GoesOn w bench bus l m before mid decoder
     → NextLine m (Ok None) l' → PrintsText (items_text w (item.End bus.place decoder.next ∷ [])) mid (Err why) now → PrintsBus w bench bus l.source l'.source before now (Err (of_print why))
 unfolding end_text
-stops_at_end end {w} {bench} {bus} {l} {m} {l'} {before} {mid} {now} {decoder} why g n p =
-    let r = reads_none l m l' g.read g.reads n.advances n.answer.0 in
+stops_at_end ends end {w} {bench} {bus} {l} {m} {l'} {before} {mid} {now} {decoder} why g n p =
+    let r = ends l m l' g.read g.reads n in
     let lines = map line_of g.read in
     let so_far = text_so_far w bench bus lines in
     let text = items_text w (item.End bus.place decoder.next ∷ []) in
     let parted : (so_far ++ p.given) ++ p.rest ≡ bus_text w bench bus lines =
     append_assoc so_far p.given p.rest ∙ ap (λ (t : List ℕ). so_far ++ t) p.parted ∙ ap (λ (n : ℕ). so_far ++ items_text w (item.End bus.place n ∷ [])) g.decoded.next ∙ sym (end w bench bus lines) in
-    let all = prints_ended (so_far ++ p.given) p.rest r n.answer.1 parted (buffers_then g.buffers p.buffers) in
+    let all = prints_ended (so_far ++ p.given) p.rest r.0 r.2 parted (buffers_then g.buffers p.buffers) in
     record { prints = all; ends = ends_print why all (caused_since why before mid now g.buffers.later p.cause) }
 
 -- the cause of a log that failed, or is too long
@@ -178,14 +198,14 @@ ends_lines : (why : LinesRefused) {w : WantList} {bench : Bench} {bus : BusPlace
 ends_lines lines.ReadFault l m l' p there c later count = (there, omega (arith, later, c.0), omega (arith, c.1, count))
 ends_lines lines.TooLong l m l' p there c later count = (there, omega (arith, c, count))
 
-pub stops_between : IsPrefix → {w : WantList} {bench : Bench} {bus : BusPlace} {l m l' : LinesState} {before now : Output} {decoder : BusDecoder} (why : LinesRefused) → GoesOn w bench bus l m before now decoder
+pub stops_between : FaultReads → SomeReads → IsPrefix → {w : WantList} {bench : Bench} {bus : BusPlace} {l m l' : LinesState} {before now : Output} {decoder : BusDecoder} (why : LinesRefused) → GoesOn w bench bus l m before now decoder
     → NextLine m (Err why) l' → PrintsBus w bench bus l.source l'.source before now (Err (of_lines why))
 unfolding prints_prefix
-stops_between prefix {w} {bench} {bus} {l} {m} {l'} {before} {now} {decoder} why g n =
-    let r = reads_none l m l' g.read g.reads n.advances n.answer.0 in
-    let all = prints_prefix prefix (text_so_far w bench bus (map line_of g.read)) [] r (append-nil _) g.buffers in
-    let there : StopsThere all = record { goes_on = n.answer.1.ended; whole = read_whole l l' g.read r n.answer.1; text = refl } in
-    record { prints = all; ends = ends_lines why l m l' all there n.answer.2 g.reads.takes.later r.count }
+stops_between stops unread prefix {w} {bench} {bus} {l} {m} {l'} {before} {now} {decoder} why g n =
+    let r = stops l m l' g.read why g.reads n in
+    let all = prints_prefix unread prefix (text_so_far w bench bus (map line_of g.read)) [] r.0 (append-nil _) g.buffers in
+    let there : StopsThere all = record { goes_on = r.1.ended; whole = r.2; text = refl } in
+    record { prints = all; ends = ends_lines why l m l' all there n.answer.2 g.reads.takes.later r.0.count }
 
 -- ---- what is pending is written before an answer
 

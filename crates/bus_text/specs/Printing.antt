@@ -1,6 +1,5 @@
 -- What a print of a bus does: to its log, to the sink, and what it answers.
-use Rattle.std.specs.Prelude.{◌≡◌, ◌⊎◌, ℕ, ◌<◌, ◌≤◌, true, false, List, [], ◌++◌, length, map, IfSome, Result, Ok, Err}
-use Rattle.std.specs.Io.KnownBytes.{prepend_known, append_known}
+use Rattle.std.specs.Prelude.{◌≡◌, ◌⊎◌, ℕ, ◌<◌, true, false, List, [], ◌++◌, length, map, IfSome, Result, Ok, Err}
 use Rattle.byte_forms.specs.Lines.{all_lines}
 use Rattle.port_io.specs.Causes.{Rose}
 use Rattle.port_io.specs.OtherSide.{SourceState}
@@ -8,19 +7,13 @@ use Rattle.bench_model.specs.declared.database.Bench.{Bench}
 use Rattle.candump_log.specs.LineOf.{line_of}
 use Rattle.candump_log.specs.LogLines.{whole_lines}
 use Rattle.candump_log.specs.LinesState.{log_limit}
+use Rattle.candump_log.specs.Reads.{TakesBytes}
 use Rattle.subscriber_text.specs.Wants.{WantList}
 use Rattle.bus_text.specs.declared.bus.BusPlace.{BusPlace}
 use Rattle.bus_text.specs.declared.refused.BusRefused.{BusRefused}
 use Rattle.bus_text.specs.declared.refused.BusRefused.TheVariants as refused
 use Rattle.bus_text.specs.BusText.{text_so_far, bus_text}
 use Rattle.bus_text.specs.Buffering.{Output, Buffers}
-
--- these bytes were taken of a log: they were the first of those left, and are left no more
-pub record TakesBytes (before now : SourceState) (took : List ℕ) : Type 0 where
-  pub left : before.left ≡ prepend_known took now.left
-  pub taken : now.taken ≡ append_known before.taken took
-  pub limit : length took ≤ log_limit
-  pub later : before.read_faults ≤ now.read_faults
 
 -- What was taken of the log, and what of its text was given to the buffer: a prefix. `lines` are the texts of all
 -- lines of the log where it tells its bytes, and `read` those that were read.

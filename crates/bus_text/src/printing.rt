@@ -15,7 +15,7 @@ ghost use Rattle.bus_text.specs.declared.bus.BusPlace.{BusPlace as Place};
 
 use crate::{BusPlace, BusRefused, TextBuffer, the_text_goes_on};
 use bench_model::{Bench, Item};
-use candump_log::{Lines, LogLine, NoLines};
+use candump_log::{Lines, LogLine, NoLines, lines_read};
 use decoded_list::{BusDecoder, Records};
 use port_io::{Sink, Source};
 use std::alloc::Global;
@@ -143,6 +143,7 @@ fn print_lines<S: Source, K: Sink>(
     ensures log_side { lines.new.other ≡ lines.old.other }
     ensures other { K.other out.new ≡ K.other out.old }
 {
+    lines_read();
     the_text_goes_on();
     let mut decoder = BusDecoder::new(alloc, bus.place, bus.kind);
     'lines: while let Some(line) = lines.next()? {
