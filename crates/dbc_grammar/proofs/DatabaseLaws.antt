@@ -20,7 +20,7 @@ use Rattle.dbc_grammar.specs.Contract.{AreStatements, Gathers, IsDatabaseOf, IsF
 use Rattle.dbc_grammar.specs.Kept.{IsKeptOf, StopsAt}
 use Rattle.dbc_grammar.specs.Rows.{IsWideFault, AreRowsOf}
 use Rattle.dbc_grammar.specs.Reads.{IsLexOrMemory, IsTreelessFault, AreMessagesOf, IsCheckOrMemory}
-use Rattle.dbc_grammar.proofs.WideLaws.{AreNarrow, rows_narrow}
+use Rattle.dbc_grammar.proofs.WideLaws.{AreScaled, rows_scaled}
 
 -- what was read of a text, whose statements are these
 pub record IsRead (text : List ℕ) (kept : Kept) : Type 0 where
@@ -93,8 +93,8 @@ pub treeless_read : (text : List ℕ) (kept : Kept) (utf8 : Bool) (rows : List R
 treeless_read text kept utf8 rows (faults.Mux id name why) read are first = inl (record {
   statements = read.statements;
   are_statements = read.are_statements;
-  narrow = subst (λ (ms : List MessageForm). AreNarrow text (all_signals ms)) read.messages
-      (rows_narrow text utf8 (noted_in text kept.notes.items) kept.messages.items 0 kept.messages.items rows are);
+  scaled = subst (λ (ms : List MessageForm). AreScaled text (all_signals ms)) read.messages
+      (rows_scaled text utf8 (noted_in text kept.notes.items) kept.messages.items 0 kept.messages.items rows are);
   treeless = subst (λ (ms : List MessageForm). IsFirstTreeless text (noted_in text (notes_of read.statements)) ms id name why) read.messages
       (subst (λ (ns : List Note). IsFirstTreeless text (noted_in text ns) kept.messages.items id name why) read.notes first);
 })
@@ -117,10 +117,7 @@ pub stop_read : (text : List ℕ) (tokens : List Token) (fault : DbcFault) → I
 stop_read text tokens (faults.Statement at) are stops = inl (record {
   tokens = tokens;
   are_tokens = are;
-  token = stops.token;
-  later = stops.later;
-  rest = stops.rest_is;
-  place = stops.place;
+  broken = stops;
 })
 stop_read text tokens faults.Memory are stops = inr refl
 stop_read text tokens (faults.Lex fault) are stops = absurd stops

@@ -1,16 +1,13 @@
 -- Every text has a database or a fault.
-use Rattle.std.proofs.Common.{◌≡◌, ap, refl, arith, ℕ, zero, suc, ◌+◌, ◌<◌, ◌≤◌, ◌⊎◌, inl, inr, Bool, true, false, List, [], ◌∷◌, ◌++◌}
+use Rattle.std.proofs.Common.{◌≡◌, ap, refl, arith, ℕ, zero, suc, ◌+◌, ◌<◌, ◌⊎◌, inl, inr, Bool, false, List, [], ◌∷◌, ◌++◌}
 use Rattle.std.proofs.Common.{length}
-use Rattle.std.specs.Prelude.{Option, Some, ℤ, max, nat_lt, unsigned_abs, slice_get}
+use Rattle.std.specs.Prelude.{Option, Some, slice_get}
 use Rattle.std.specs.Str.{is_utf8}
-use Rattle.std.specs.List.{flat_map, enumerate_from, AllByRecursion}
-use Rattle.std.proofs.lemmas.Bool.Decides.{nat_tests}
+use Rattle.std.specs.List.{flat_map, enumerate_from, AllByRecursion, AllZip}
 use Rattle.std.proofs.lemmas.List.{length-map}
 use Rattle.std.proofs.lemmas.Str.{IsUtf8-from_is_utf8, is_utf8-from_IsUtf8}
+use Rattle.decisions.specs.ListDecisions.{decides_first}
 use Rattle.exact_scale.specs.declared.scaling.Scale.{Scale}
-use Rattle.exact_scale.specs.Spelling.{Denotes}
-use Rattle.exact_scale.specs.Limits as limits
-use Rattle.exact_scale.specs.Limits.{most_places, numerator_limit, numerator_over, IsNarrow}
 use Rattle.multiplex_tree.specs.declared.mark.Mark.{Mark}
 use Rattle.multiplex_tree.specs.declared.mark.Link.{Link}
 use Rattle.multiplex_tree.specs.declared.mark.Parent.{Parent}
@@ -32,35 +29,35 @@ use Rattle.sig_text.specs.declared.token.Token.{Token}
 use Rattle.sig_text.specs.declared.fault.LexFault.{LexFault}
 use Rattle.sig_text.specs.Tokens.{IsTokens, IsLexFault}
 use Rattle.token_forms.specs.Pieces.{token_text}
-use Rattle.token_forms.specs.Numbers.{signed_text}
 use Rattle.token_forms.specs.Runs.{run_of}
+use Rattle.token_forms.specs.Stands.{Each}
 use Rattle.dbc_grammar.specs.declared.fault.DbcFault.{DbcFault}
 use Rattle.dbc_grammar.specs.declared.fault.DbcFault.TheVariants as faults
 use Rattle.dbc_grammar.specs.declared.statement.Note.{Note}
-use Rattle.dbc_grammar.specs.declared.statement.Scaling.{Scaling}
 use Rattle.dbc_grammar.specs.declared.statement.SignalForm.{SignalForm}
 use Rattle.dbc_grammar.specs.declared.statement.MessageForm.{MessageForm}
 use Rattle.dbc_grammar.specs.declared.statement.Statement.{Statement}
+use Rattle.dbc_grammar.specs.Statements.{Stands}
 use Rattle.dbc_grammar.specs.Forms.{statement_at}
 use Rattle.dbc_grammar.specs.Naming.{Noted, noted_in, message_key, is_first_message, notes_on, places_in}
-use Rattle.dbc_grammar.specs.Gather.{AreEach, IsScaleOf, IsTooWide, IsSignalOf, IsSignalAt, labels_in, float_after, message_marks}
+use Rattle.dbc_grammar.specs.Gather.{IsSignalOf, IsSignalAt, labels_in, float_after, message_marks}
 use Rattle.dbc_grammar.specs.Gather.{message_links, messages_of, notes_of}
-use Rattle.dbc_grammar.specs.Contract.{AreStatements, Gathers, IsMessageAt, IsDatabaseOf, HasFault, IsFirstWide, HasTree, HasSomeTree}
+use Rattle.dbc_grammar.specs.Contract.{AreStatements, Gathers, IsMessageAt, IsDatabaseOf, HasFault, HasScale, IsTooWideAt, HasSomeScale, IsFirstWide, HasTree, HasSomeTree}
 use Rattle.dbc_grammar.specs.Contract.{all_signals, fault_id}
-use Rattle.dbc_grammar.proofs.ScaleLaws.{no_factor, no_offset, together_refuse}
 use Rattle.dbc_grammar.proofs.RowLaws.{rec-all}
 use Rattle.dbc_grammar.proofs.MadeLaws.{messages_made}
-use Rattle.dbc_grammar.proofs.UniqueLaws.{OneDecimal}
+use Rattle.dbc_grammar.proofs.WideLaws.{OneScale, SomeScale, scales_decide, AreScaled}
 
--- a text denotes one decimal at most, and each text one within the limits or none
-abbrev pub SomeDecimal : Type 0
-SomeDecimal = (text : List ℕ) → ((n : ℤ) × ((k : ℕ) × (Denotes text n k × (k ≤ most_places) × IsNarrow n))) ⊎
-    ((n : ℤ) (k : ℕ) → Denotes text n k → limits.IsTooWide n k)
+-- the statements that are read stand there, as many as there are
+abbrev pub SomeRun : Type 0
+SomeRun = (text : List ℕ) (tokens : List Token)
+    → Each (Stands text) (run_of (statement_at text) tokens).0 tokens (run_of (statement_at text) tokens).1
 
 -- what the crates below say: each text has tokens or a fault, each message a tree or a fault, and each database a verdict
 pub record Found : Type 0 where
-  pub one_decimal : OneDecimal
-  pub decimal : SomeDecimal
+  pub one_scale : OneScale
+  pub some_scale : SomeScale
+  pub run : SomeRun
   pub tree : (marks : List Mark) (links : List Link)
       → ((t : List (Option Parent)) × IsTree marks links t) ⊎ ((s : ℕ) × (why : MuxWhy) × IsFault marks links (mux.At s why))
   pub over : (marks : List Mark) (links : List Link) (parents : List (Option Parent)) → IsTree marks links parents
@@ -71,87 +68,22 @@ pub record Found : Type 0 where
 
 -- ---- each signal has a scale, or the first that has none is named
 
-abbrev HasScale : List ℕ → SignalForm → Type 0
-HasScale text form = (scale : Scale) × IsScaleOf text form.scaling scale
+all_scaled : (text : List ℕ) (forms : List SignalForm) (scales : List Scale) → AllZip (HasScale text) forms scales → AreScaled text forms
+all_scaled text [] scales each = tt
+all_scaled text (form ∷ forms) [] each = absurd each
+all_scaled text (form ∷ forms) (scale ∷ scales) each = ((scale, each.0), all_scaled text forms scales each.1)
 
-lt_cases : (m n : ℕ) → ((nat_lt m n ≡ true) × (m < n)) ⊎ ((nat_lt m n ≡ false) × (n ≤ m))
-lt_cases m n = grind (arith, nat_tests)
-
-scale_by : (found : Found) (text : List ℕ) (scaling : Scaling) (fn : ℤ) (fk : ℕ) (on : ℤ) (ok : ℕ)
-    → Denotes (signed_text text scaling.factor) fn fk
-    → Denotes (signed_text text scaling.offset) on ok → fk ≤ most_places → ok ≤ most_places
-    → ((s : Scale) × IsScaleOf text scaling s) ⊎ IsTooWide text scaling
-scale_by found text scaling fn fk on ok df do' few_f few_o = elim
-    (lt_cases (unsigned_abs (numerator_over (max fk ok) fn fk)) numerator_limit) [
-      | inr wide ↦ inr (together_refuse text scaling (record { num = fn; k = fk }) (record { num = on; k = ok }) df do' found.one_decimal
-          (inl wide.1))
-      | inl small ↦ elim (lt_cases (unsigned_abs (numerator_over (max fk ok) on ok)) numerator_limit) [
-        | inr wide ↦ inr (together_refuse text scaling (record { num = fn; k = fk }) (record { num = on; k = ok }) df do' found.one_decimal
-            (inr wide.1))
-        | inl too ↦ inl (
-          record { factor = numerator_over (max fk ok) fn fk; offset = numerator_over (max fk ok) on ok; k = max fk ok },
-          record {
-            factor = fn;
-            factor_places = fk;
-            offset = on;
-            offset_places = ok;
-            factor_denoted = df;
-            offset_denoted = do';
-            places = refl;
-            factor_is = refl;
-            offset_is = refl;
-            within = record { factor = small.1; offset = too.1; places = omega arith };
-          },
-        )
-      ]
+wide_or_scaled : (found : Found) (text : List ℕ) (forms : List SignalForm)
+    → ((at : ℕ) × IsFirstWide text forms at) ⊎ AreScaled text forms
+wide_or_scaled found text forms = elim
+    ((decides_first (HasScale text) (IsTooWideAt text) (scales_decide found.one_scale found.some_scale text)).some forms) [
+      | inl scales ↦ inr (all_scaled text forms scales.0 scales.1)
+      | inr wide ↦ inl wide
     ]
-
-some_scale : (found : Found) (text : List ℕ) (scaling : Scaling) → ((s : Scale) × IsScaleOf text scaling s) ⊎ IsTooWide text scaling
-some_scale found text scaling = elim (found.decimal (signed_text text scaling.factor)) [
-  | inr none ↦ inr (no_factor text scaling none)
-  | inl (fn, (fk, (df, few_f, narrow_f))) ↦ elim (found.decimal (signed_text text scaling.offset)) [
-    | inr none ↦ inr (no_offset text scaling none)
-    | inl (on, (ok, (do', few_o, narrow_o))) ↦ scale_by found text scaling fn fk on ok df do' few_f few_o
-  ]
-]
-
-abbrev WideOrScaled : List ℕ → List SignalForm → Type 0
-WideOrScaled text forms = ((at : ℕ) × IsFirstWide text forms at) ⊎ AllByRecursion (HasScale text) forms
-
-one_more : (text : List ℕ) (form : SignalForm) (forms : List SignalForm) → HasScale text form → WideOrScaled text forms
-    → WideOrScaled text (form ∷ forms)
-one_more text form forms scale rest = elim rest [
-  | inl w ↦
-      let wide = w.1 in inl (
-        w.0,
-        record {
-          before = form ∷ wide.before;
-          signal = wide.signal;
-          after = wide.after;
-          cut = ap (λ l. form ∷ l) wide.cut;
-          place = wide.place;
-          wide = wide.wide;
-          first = ((λ none. none scale.0 scale.1), wide.first);
-        },
-      )
-  | inr all ↦ inr (scale, all)
-]
-
-wide_or_scaled : (found : Found) (text : List ℕ) (forms : List SignalForm) → WideOrScaled text forms
-wide_or_scaled found text [] = inr tt
-wide_or_scaled found text (form ∷ forms) = elim (some_scale found text form.scaling) [
-  | inl scale ↦ one_more text form forms scale (wide_or_scaled found text forms)
-  | inr wide ↦ inl (form.at, record { before = []; signal = form; after = forms; cut = refl; place = refl; wide = wide; first = tt })
-]
-
-narrow : (text : List ℕ) (forms : List SignalForm) → AllByRecursion (HasScale text) forms
-    → AllByRecursion (λ (s : SignalForm). ¬ IsTooWide text s.scaling) forms
-narrow text [] all = tt
-narrow text (form ∷ forms) all = ((λ none. none all.0.0 all.0.1), narrow text forms all.1)
 
 -- ---- signals that have scales are made
 
-signal_with : (text : List ℕ) (utf8 : Bool) (form : SignalForm) (notes : List Note) → HasScale text form
+signal_with : (text : List ℕ) (utf8 : Bool) (form : SignalForm) (notes : List Note) → HasSomeScale text form
     → (s : Signal) × IsSignalOf text utf8 form notes s
 signal_with text utf8 form notes (scale, is) = (
   record {
@@ -167,8 +99,8 @@ signal_with text utf8 form notes (scale, is) = (
 )
 
 signals_with : (text : List ℕ) (utf8 : Bool) (noted : Noted) (named : Bool) (m : MessageForm) (n : ℕ) (forms : List SignalForm)
-    → AllByRecursion (HasScale text) forms
-    → (signals : List Signal) × AreEach (IsSignalAt text utf8 noted named m) (enumerate_from n forms) signals
+    → AreScaled text forms
+    → (signals : List Signal) × AllZip (IsSignalAt text utf8 noted named m) (enumerate_from n forms) signals
 signals_with text utf8 noted named m n [] all = ([], tt)
 signals_with text utf8 noted named m n (form ∷ forms) all =
     let one = signal_with text utf8 form (notes_on text noted (places_in text m) named (message_key m) n form) all.0 in
@@ -214,7 +146,7 @@ record TreelessFrom (text : List ℕ) (noted : Noted) (all : List MessageForm) (
 
 abbrev MessagesOrTreeless : List ℕ → Bool → Noted → List MessageForm → ℕ → List MessageForm → Type 0
 MessagesOrTreeless text utf8 noted all n forms =
-    ((messages : List Message) × AreEach (IsMessageAt text utf8 noted all)
+    ((messages : List Message) × AllZip (IsMessageAt text utf8 noted all)
     (enumerate_from n forms) messages) ⊎ TreelessFrom text noted all n forms
 
 treeless_here : (text : List ℕ) (utf8 : Bool) (noted : Noted) (all : List MessageForm) (n : ℕ) (m : MessageForm)
@@ -241,7 +173,7 @@ treeless_here text utf8 noted all n m forms s why fault =
     }
 
 message_with : (text : List ℕ) (utf8 : Bool) (noted : Noted) (all : List MessageForm) (n : ℕ) (m : MessageForm)
-    → AllByRecursion (HasScale text) m.signals
+    → AreScaled text m.signals
     → (parents : List (Option Parent)) → HasTree text noted all (n, m) parents
     → (message : Message) × IsMessageAt text utf8 noted all (n, m) message
 message_with text utf8 noted all n m scaled parents tree =
@@ -257,7 +189,7 @@ message_with text utf8 noted all n m scaled parents tree =
     )
 
 message_before : (text : List ℕ) (utf8 : Bool) (noted : Noted) (all : List MessageForm) (n : ℕ) (m : MessageForm)
-    (forms : List MessageForm) → AllByRecursion (HasScale text) m.signals
+    (forms : List MessageForm) → AreScaled text m.signals
     → (parents : List (Option Parent)) → HasTree text noted all (n, m) parents → MessagesOrTreeless text utf8 noted all (n + 1) forms
     → MessagesOrTreeless text utf8 noted all n (m ∷ forms)
 message_before text utf8 noted all n m forms scaled parents tree later = elim later [
@@ -280,14 +212,14 @@ message_before text utf8 noted all n m forms scaled parents tree later = elim la
   })
 ]
 
-front_of : (text : List ℕ) (xs ys : List SignalForm) → AllByRecursion (HasScale text) (xs ++ ys)
-    → AllByRecursion (HasScale text) xs × AllByRecursion (HasScale text) ys
+front_of : (text : List ℕ) (xs ys : List SignalForm) → AreScaled text (xs ++ ys)
+    → AreScaled text xs × AreScaled text ys
 front_of text [] ys all = (tt, all)
 front_of text (x ∷ xs) ys all = let rest = front_of text xs ys all.1 in ((all.0, rest.0), rest.1)
 
 messages_or_treeless : (found : Found) (text : List ℕ) (utf8 : Bool) (noted : Noted) (all : List MessageForm) (n : ℕ)
     (forms : List MessageForm)
-    → AllByRecursion (HasScale text) (all_signals forms) → MessagesOrTreeless text utf8 noted all n forms
+    → AreScaled text (all_signals forms) → MessagesOrTreeless text utf8 noted all n forms
 messages_or_treeless found text utf8 noted all n [] scaled = inl ([], tt)
 messages_or_treeless found text utf8 noted all n (m ∷ forms) scaled =
     let parts = front_of text m.signals (all_signals forms) scaled in
@@ -314,7 +246,7 @@ judged found bytes statements d are gathers =
     ]
 
 with_messages : (found : Found) (bytes : List ℕ) (statements : List Statement) → AreStatements bytes statements
-    → AllByRecursion (HasScale bytes) (all_signals (messages_of statements))
+    → AreScaled bytes (all_signals (messages_of statements))
     → MessagesOrTreeless bytes (is_utf8 bytes) (noted_in bytes (notes_of statements)) (messages_of statements) 0 (messages_of statements)
     → HasSome bytes
 with_messages found bytes statements are scaled either = elim either [
@@ -326,7 +258,7 @@ with_messages found bytes statements are scaled either = elim either [
     record {
       statements = statements;
       are_statements = are;
-      narrow = narrow bytes (all_signals (messages_of statements)) scaled;
+      scaled = scaled;
       treeless = record {
         before = t.before;
         message = t.message;
@@ -355,16 +287,23 @@ with_statements found bytes statements are = elim (wide_or_scaled found bytes (a
       (messages_of statements) scaled)
 ]
 
-with_run : (found : Found) (bytes : List ℕ) (tokens : List Token) → IsTokens bytes false tokens → (run : List Statement × List Token)
-    → run_of (statement_at bytes) tokens ≡ run → HasSome bytes
-with_run found bytes tokens are (statements, []) e = with_statements found bytes statements
-    (record { tokens = tokens; are_tokens = are; all = e })
-with_run found bytes tokens are (statements, token ∷ later) e =
-    let rest : (run_of (statement_at bytes) tokens).1 ≡ token ∷ later = ap (λ (r : List Statement × List Token). r.1) e in
-    inr (faults.Statement token.at, record { tokens = tokens; are_tokens = are; token = token; later = later; rest = rest; place = refl })
+with_run : (found : Found) (bytes : List ℕ) (tokens : List Token) → IsTokens bytes false tokens
+    → (statements : List Statement) (rest : List Token) → Each (Stands bytes) statements tokens rest → HasSome bytes
+with_run found bytes tokens are statements [] longest =
+    with_statements found bytes statements (record { tokens = tokens; are_tokens = are; all = longest })
+with_run found bytes tokens are statements (token ∷ later) longest = inr (
+  faults.Statement token.at,
+  record {
+    tokens = tokens;
+    are_tokens = are;
+    broken = record { found = statements; token = token; later = later; each = longest; place = refl };
+  },
+)
 
 pub database_or_fault : (found : Found) (bytes : List ℕ) → HasSome bytes
 database_or_fault found bytes = elim (found.reading bytes false) [
-  | inl tokens ↦ with_run found bytes tokens.0 tokens.1 (run_of (statement_at bytes) tokens.0) refl
+  | inl tokens ↦
+      let run = run_of (statement_at bytes) tokens.0 in
+      with_run found bytes tokens.0 tokens.1 run.0 run.1 (found.run bytes tokens.0)
   | inr fault ↦ inr (faults.Lex fault.0, fault.1)
 ]

@@ -21,9 +21,10 @@ use Rattle.dbc_grammar.specs.declared.statement.Statement.TheVariants as stateme
 use Rattle.dbc_grammar.specs.declared.statement.SignalForm.{SignalForm}
 use Rattle.dbc_grammar.specs.declared.statement.Heading.{Heading}
 use Rattle.dbc_grammar.specs.declared.statement.MessageForm.{MessageForm}
+use Rattle.dbc_grammar.specs.Limits.{small_limit, last_range_value, last_type}
 use Rattle.dbc_grammar.specs.Words.{is_free_word, is_among, unkept_words}
 use Rattle.dbc_grammar.specs.Passed.{is_symbol, is_before_semicolon, is_before_statement, pass}
-use Rattle.dbc_grammar.specs.Forms.{◌<|>◌, optional, small_limit, small_at, version_at, symbols_at, rate_at, timing_at, nodes_at}
+use Rattle.dbc_grammar.specs.Forms.{◌<|>◌, optional, small_at, version_at, symbols_at, rate_at, timing_at, nodes_at}
 use Rattle.dbc_grammar.specs.Forms.{other_at, value_text_at, variable_texts_at, lenient_texts_at, unkept_at, mark_of, mark_by, mark_at}
 use Rattle.dbc_grammar.specs.Forms.{with_rest, order_at, signedness_at, place_at, scaling_at, limits_at, node_at, receiver_at}
 use Rattle.dbc_grammar.specs.Forms.{receivers_by, receivers_at, signal_head_at, signal_at, is_identifier, heading_at, message_at}
@@ -131,10 +132,10 @@ module _ (Left : List Token → Type 0) (Told : Token → Type 0) (kept : IsInhe
   number_told text token Str rest of = tt
   number_told text token Sign rest of = tt
 
-  pub number_of : (text : List ℕ) (tokens : List Token) → Left tokens → IfFound Leaves (number_at tokens)
+  number_of : (text : List ℕ) (tokens : List Token) → Behind tokens → IfFound Leaves (number_at tokens)
   unfolding number_at
   number_of text [] of = tt
-  number_of text (token ∷ rest) of = number_told text token token.kind rest (kept.tail token rest of)
+  number_of text (token ∷ rest) of = number_told text token token.kind rest of.1
 
   string_told : (text : List ℕ) (token : Token) (kind : TokenKind) (rest : List Token) → Left rest
       → IfFound Leaves (string_by token kind rest)
@@ -151,27 +152,27 @@ module _ (Left : List Token → Type 0) (Told : Token → Type 0) (kept : IsInhe
   pub whole_of : (text : List ℕ) (limit : ℕ) (tokens : List Token) → Left tokens → IfFound Leaves (whole_at text limit tokens)
   unfolding whole_at
   whole_of text limit tokens of =
-      bound Leaves Leaves (number_at tokens) _ (number_of text tokens of) (λ found left.
+      bound Leaves Leaves (number_at tokens) _ (number_of text tokens (behind tokens of)) (λ found left.
       bound (λ (n : ℕ). Unit {0}) Leaves (number_up_to Decimal limit (token_text text found.0)) _
       (whatever (number_up_to Decimal limit (token_text text found.0))) (λ n any. left))
 
   pub digits_of : (text : List ℕ) (tokens : List Token) → Left tokens → IfFound Leaves (digits_at text tokens)
   unfolding digits_at
   digits_of text tokens of =
-      bound Leaves Leaves (number_at tokens) _ (number_of text tokens of) (λ found left.
+      bound Leaves Leaves (number_at tokens) _ (number_of text tokens (behind tokens of)) (λ found left.
       where_true Leaves (is_numeral Decimal (token_text text found.0)) (Some found) None left tt)
 
-  after_of : (text : List ℕ) (sign : Option Token) (tokens : List Token) → Left tokens → IfFound Leaves (after_sign text sign tokens)
+  after_of : (text : List ℕ) (sign : Option Token) (tokens : List Token) → Behind tokens → IfFound Leaves (after_sign text sign tokens)
   after_of text sign tokens of =
       bound Leaves Leaves (number_at tokens) _ (number_of text tokens of) (λ found left.
       where_true Leaves (is_hexadecimal (token_text text found.0)) None _ tt left)
 
-  pub signed_of : (text : List ℕ) (tokens : List Token) → Left tokens → IfFound Leaves (signed_at text tokens)
+  signed_of : (text : List ℕ) (tokens : List Token) → Behind tokens → IfFound Leaves (signed_at text tokens)
   unfolding signed_at
   signed_of text [] of = tt
   signed_of text (token ∷ rest) of =
       where_true Leaves (is_sign_token text token) (after_sign text (Some token) rest) (after_sign text None (token ∷ rest))
-      (after_of text (Some token) rest (kept.tail token rest of)) (after_of text None (token ∷ rest) of)
+      (after_of text (Some token) rest (behind rest of.1)) (after_of text None (token ∷ rest) of)
 
   -- ---- runs of a form: each one keeps this, and the tokens left keep it
 
@@ -248,7 +249,7 @@ module _ (Left : List Token → Type 0) (Told : Token → Type 0) (kept : IsInhe
       where_true Left (is_among (token_text text word.0) unkept_words) (literal_at text (codes ";") (pass (is_before_semicolon text) word.1)) None
       (literal_of text (codes ";") (pass (is_before_semicolon text) word.1) (pass_of text (is_before_semicolon text) word.1 w.1)) tt)
 
-  value_text_of : (text : List ℕ) (tokens : List Token) → Left tokens → IfFound Leaves (value_text_at text tokens)
+  pub value_text_of : (text : List ℕ) (tokens : List Token) → Behind tokens → IfFound Leaves (value_text_at text tokens)
   unfolding value_text_at
   value_text_of text tokens of =
       bound Leaves Leaves (signed_at text tokens) _ (signed_of text tokens of) (λ number a.
@@ -260,7 +261,7 @@ module _ (Left : List Token → Type 0) (Told : Token → Type 0) (kept : IsInhe
       bound Left Left (literal_at text (codes "VAL_") tokens) _ (literal_first text (codes "VAL_") tokens of) (λ rest r.
       bound IsWordBefore Left (word_at rest) _ (word_of text rest r) (λ name w.
       literal_of text (codes ";") (run_of (value_text_at text) name.1).1
-      (run_of_of text (value_text_at text) (value_text_of text) name.1 w.1)))
+      (run_of_of text (value_text_at text) (λ ts left. value_text_of text ts (behind ts left)) name.1 w.1)))
 
   lenient_texts_of : (text : List ℕ) (tokens : List Token) → Behind tokens → IfFound Left (lenient_texts_at text tokens)
   unfolding lenient_texts_at
@@ -320,47 +321,52 @@ module _ (Left : List Token → Type 0) (Told : Token → Type 0) (kept : IsInhe
   unfolding scaling_at
   scaling_of text tokens of =
       bound Left Leaves (literal_at text (codes "(") tokens) _ (literal_of text (codes "(") tokens of) (λ rest a.
-      bound Leaves Leaves (signed_at text rest) _ (signed_of text rest a) (λ factor b.
+      bound Leaves Leaves (signed_at text rest) _ (signed_of text rest (behind rest a)) (λ factor b.
       bound Left Leaves (literal_at text (codes ",") factor.1) _ (literal_of text (codes ",") factor.1 b) (λ after c.
-      bound Leaves Leaves (signed_at text after) _ (signed_of text after c) (λ offset d.
+      bound Leaves Leaves (signed_at text after) _ (signed_of text after (behind after c)) (λ offset d.
       bound Left Leaves (literal_at text (codes ")") offset.1) _ (literal_of text (codes ")") offset.1 d) (λ last e. e)))))
 
   limits_of : (text : List ℕ) (tokens : List Token) → Left tokens → IfFound Left (limits_at text tokens)
   unfolding limits_at
   limits_of text tokens of =
       bound Left Left (literal_at text (codes "[") tokens) _ (literal_of text (codes "[") tokens of) (λ rest a.
-      bound Leaves Left (signed_at text rest) _ (signed_of text rest a) (λ low b.
+      bound Leaves Left (signed_at text rest) _ (signed_of text rest (behind rest a)) (λ low b.
       bound Left Left (literal_at text (codes "|") low.1) _ (literal_of text (codes "|") low.1 b) (λ after c.
-      bound Leaves Left (signed_at text after) _ (signed_of text after c) (λ high d. literal_of text (codes "]") high.1 d))))
+      bound Leaves Left (signed_at text after) _ (signed_of text after (behind after c)) (λ high d. literal_of text (codes "]") high.1 d))))
 
-  node_of : (text : List ℕ) (tokens : List Token) → Left tokens → IfFound Leaves (node_at text tokens)
+  node_of : (text : List ℕ) (tokens : List Token) → Behind tokens → IfFound Leaves (node_at text tokens)
   unfolding node_at
   node_of text tokens of =
-      bound IsWordBefore Leaves (word_at tokens) _ (word_of text tokens of) (λ word w.
+      bound IsWordBefore Leaves (word_at tokens) _ (word_first text tokens of) (λ word w.
       where_true Leaves (is_free_word text word.0) (Some word) None w.1 tt)
 
-  receiver_of : (text : List ℕ) (tokens : List Token) → Left tokens → IfFound Leaves (receiver_at text tokens)
+  optional_first : (tokens : List Token) (o : Option (List Token)) → Behind tokens → IfFound Left o → Behind (optional tokens o)
+  optional_first tokens None of found = of
+  optional_first tokens (Some rest) of found = behind rest found
+
+  pub receiver_of : (text : List ℕ) (tokens : List Token) → Behind tokens → IfFound Leaves (receiver_at text tokens)
   unfolding receiver_at
   receiver_of text tokens of =
       node_of text (optional tokens (literal_at text (codes ",") tokens))
-      (optional_of text tokens (literal_at text (codes ",") tokens) of (literal_of text (codes ",") tokens of))
+      (optional_first tokens (literal_at text (codes ",") tokens) of (literal_first text (codes ",") tokens of))
 
   receivers_told : (text : List ℕ) (tokens : List Token) (o : Option (Token × List Token)) → Left tokens → IfFound Leaves o
       → Left (receivers_by text tokens o)
   receivers_told text tokens None of found = of
-  receivers_told text tokens (Some first) of found = run_of_of text (receiver_at text) (receiver_of text) first.1 found
+  receivers_told text tokens (Some first) of found =
+      run_of_of text (receiver_at text) (λ ts left. receiver_of text ts (behind ts left)) first.1 found
 
   receivers_of : (text : List ℕ) (tokens : List Token) → Left tokens → Left (receivers_at text tokens)
   unfolding receivers_at
-  receivers_of text tokens of = receivers_told text tokens (node_at text tokens) of (node_of text tokens of)
+  receivers_of text tokens of = receivers_told text tokens (node_at text tokens) of (node_of text tokens (behind tokens of))
 
   abbrev NamesHead : Token × Mark × List Token → Type 0
   NamesHead head = IsWordToken Told head.0 × Left head.2
 
-  head_of : (text : List ℕ) (tokens : List Token) → Left tokens → IfFound NamesHead (signal_head_at text tokens)
+  head_of : (text : List ℕ) (tokens : List Token) → Behind tokens → IfFound NamesHead (signal_head_at text tokens)
   unfolding signal_head_at
   head_of text tokens of =
-      bound Left NamesHead (literal_at text (codes "SG_") tokens) _ (literal_of text (codes "SG_") tokens of) (λ rest a.
+      bound Left NamesHead (literal_at text (codes "SG_") tokens) _ (literal_first text (codes "SG_") tokens of) (λ rest a.
       bound IsWordBefore NamesHead (word_at rest) _ (word_of text rest a) (λ name b.
       bound Leaves NamesHead (mark_at text name.1) _ (mark_told text name.1 (word_at name.1) b.1 (word_of text name.1 b.1)) (λ mark c.
       bound Left NamesHead (literal_at text (codes ":") mark.1) _ (literal_of text (codes ":") mark.1 c) (λ after d. (b.0, d)))))
@@ -369,7 +375,7 @@ module _ (Left : List Token → Type 0) (Told : Token → Type 0) (kept : IsInhe
   abbrev pub NamesSignal : SignalForm → Type 0
   NamesSignal s = IsWordToken Told s.name
 
-  signal_of : (text : List ℕ) (tokens : List Token) → Left tokens → IfFound (Keeps NamesSignal) (signal_at text tokens)
+  pub signal_of : (text : List ℕ) (tokens : List Token) → Behind tokens → IfFound (Keeps NamesSignal) (signal_at text tokens)
   unfolding signal_at
   signal_of text tokens of =
       let Named : SignalForm × List Token → Type 0 = Keeps NamesSignal in
@@ -403,7 +409,7 @@ module _ (Left : List Token → Type 0) (Told : Token → Type 0) (kept : IsInhe
   unfolding message_at
   message_of text tokens of =
       bound (Keeps NamesHeading) (Keeps NamesMessage) (heading_at text tokens) _ (heading_of text tokens of) (λ heading a.
-      let run = run_within_of text NamesSignal (signal_at text) (signal_of text) (length heading.1) heading.1 a.1 in
+      let run = run_within_of text NamesSignal (signal_at text) (λ ts left. signal_of text ts (behind ts left)) (length heading.1) heading.1 a.1 in
       (record { message = a.0; signals = run.0 }, run.1))
 
   -- ---- notes
@@ -423,14 +429,14 @@ module _ (Left : List Token → Type 0) (Told : Token → Type 0) (kept : IsInhe
       bound LeavesBehind Leaves (named_at text (codes "VAL_") tokens) _ (named_of text (codes "VAL_") tokens of) (λ named a.
       bound Left Leaves (literal_at text (codes ";") (run_of (value_text_at text) named.2).1) _
       (literal_of text (codes ";") (run_of (value_text_at text) named.2).1
-      (run_of_of text (value_text_at text) (value_text_of text) named.2 a)) (λ rest r. r))
+      (run_of_of text (value_text_at text) (λ ts left. value_text_of text ts (behind ts left)) named.2 a)) (λ rest r. r))
 
   type_of : (text : List ℕ) (tokens : List Token) → Left tokens → IfFound Leaves (type_at text tokens)
   unfolding type_at
   type_of text tokens of =
       let behind = optional tokens (literal_at text (codes ":") tokens) in
-      bound Leaves Leaves (whole_at text 2 behind) _
-      (whole_of text 2 behind (optional_of text tokens (literal_at text (codes ":") tokens) of (literal_of text (codes ":") tokens of)))
+      bound Leaves Leaves (whole_at text last_type behind) _
+      (whole_of text last_type behind (optional_of text tokens (literal_at text (codes ":") tokens) of (literal_of text (codes ":") tokens of)))
       (λ kind a.
       bound Left Leaves (literal_at text (codes ";") kind.1) _ (literal_of text (codes ";") kind.1 a) (λ rest r. r))
 
@@ -443,20 +449,20 @@ module _ (Left : List Token → Type 0) (Told : Token → Type 0) (kept : IsInhe
   range_of : (text : List ℕ) (tokens : List Token) → Left tokens → IfFound Leaves (range_at text tokens)
   unfolding range_at
   range_of text tokens of =
-      bound Leaves Leaves (whole_at text 18446744073709551615 tokens) _ (whole_of text 18446744073709551615 tokens of) (λ low a.
+      bound Leaves Leaves (whole_at text last_range_value tokens) _ (whole_of text last_range_value tokens of) (λ low a.
       bound Left Leaves (literal_at text (codes "-") low.1) _ (literal_of text (codes "-") low.1 a) (λ rest b.
-      bound Leaves Leaves (whole_at text 18446744073709551615 rest) _ (whole_of text 18446744073709551615 rest b) (λ high c. c)))
+      bound Leaves Leaves (whole_at text last_range_value rest) _ (whole_of text last_range_value rest b) (λ high c. c)))
 
-  more_range_of : (text : List ℕ) (tokens : List Token) → Left tokens → IfFound Leaves (more_range_at text tokens)
+  pub more_range_of : (text : List ℕ) (tokens : List Token) → Behind tokens → IfFound Leaves (more_range_at text tokens)
   unfolding more_range_at
   more_range_of text tokens of =
-      bound Left Leaves (literal_at text (codes ",") tokens) _ (literal_of text (codes ",") tokens of) (λ rest a. range_of text rest a)
+      bound Left Leaves (literal_at text (codes ",") tokens) _ (literal_first text (codes ",") tokens of) (λ rest a. range_of text rest a)
 
   ranges_of : (text : List ℕ) (tokens : List Token) → Left tokens → IfFound Leaves (ranges_at text tokens)
   unfolding ranges_at
   ranges_of text tokens of =
       bound Leaves Leaves (range_at text tokens) _ (range_of text tokens of) (λ first a.
-      run_of_of text (more_range_at text) (more_range_of text) first.1 a)
+      run_of_of text (more_range_at text) (λ ts left. more_range_of text ts (behind ts left)) first.1 a)
 
   multiplexing_of : (text : List ℕ) (tokens : List Token) → Behind tokens → IfFound Leaves (multiplexing_at text tokens)
   unfolding multiplexing_at

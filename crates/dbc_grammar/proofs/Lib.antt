@@ -1,8 +1,6 @@
 pub mod RunLaws
 pub mod PlaceLaws
-pub mod StatementLaws
 pub mod NoteLaws
-pub mod ScaleLaws
 pub mod ListLaws
 pub mod WideLaws
 pub mod RowLaws
@@ -16,3 +14,9 @@ pub mod ExistLaws
 pub mod FormLaws
 pub mod NameLaws
 pub mod TakesLaws
+pub mod PartLaws
+pub mod NoteStandsLaws
+pub mod MarkLaws
+pub mod SignalStandsLaws
+pub mod PassedStandsLaws
+pub mod StatementStandsLaws

@@ -1,11 +1,11 @@
 -- What loops over lists append, and lists that go side by side.
 use Rattle.std.proofs.Common.{◌≡◌, ◌∙◌, sym, ap, ℕ, ◌+◌, ◌<◌, ◌≤◌, List, [], ◌∷◌, ◌++◌, length, get_or, take, Bool, refl, append_assoc, arith}
-use Rattle.std.specs.List.{flat_map, enumerate_from}
+use Rattle.std.specs.List.{flat_map, enumerate_from, AllZip}
 use Rattle.std.specs.Borrow.{Bor}
 use Rattle.std.proofs.lemmas.List.{take_more, take_all, append-nil, length-take}
 use Rattle.std.proofs.lemmas.Grind.{flat_map-append}
 use Rattle.dbc_grammar.specs.declared.statement.Note.{Note}
-use Rattle.dbc_grammar.specs.Gather.{AreEach, float_said, float_after}
+use Rattle.dbc_grammar.specs.Gather.{float_said, float_after}
 use Rattle.dbc_grammar.specs.Noted.{seen_notes}
 
 -- what one more element adds
@@ -33,8 +33,8 @@ float_more float [] n = refl
 float_more float (m ∷ notes) n = float_more (float_said float m.now.says) notes n
 
 -- one more of each
-pub each_more : {A B : Type 0} (R : A → B → Type 0) (xs : List A) (ys : List B) (x : A) (y : B) → AreEach R xs ys → R x y →
-    AreEach R (xs ++ x ∷ []) (ys ++ y ∷ [])
+pub each_more : {A B : Type 0} (R : A → B → Type 0) (xs : List A) (ys : List B) (x : A) (y : B) → AllZip R xs ys → R x y →
+    AllZip R (xs ++ x ∷ []) (ys ++ y ∷ [])
 each_more R [] [] x y each one = (one, tt)
 each_more R [] (b ∷ bs) x y each one = absurd each
 each_more R (a ∷ xs) [] x y each one = absurd each

@@ -1,7 +1,7 @@
 -- The database that statements make is one that `check` may judge.
 use Rattle.std.proofs.Common.{◌≡◌, ◌∙◌, sym, ap, subst, ℕ, suc, ◌+◌, ◌≤◌, List, [], ◌∷◌, length, Bool, ◌&&◌, refl, arith, inl, inr, Option, Some, None, ℤ, pos, neg_ℤ}
 use Rattle.std.specs.Prelude.{nat_le}
-use Rattle.std.specs.List.{flat_map, enumerate_from, AllByRecursion}
+use Rattle.std.specs.List.{flat_map, enumerate_from, AllByRecursion, AllZip}
 use Rattle.std.specs.Option.{option_map}
 use Rattle.std.proofs.lemmas.Bool.{cases_Bool, and_parts}
 use Rattle.std.proofs.lemmas.List.{length-map}
@@ -27,7 +27,7 @@ use Rattle.dbc_grammar.specs.declared.statement.ValueText.{ValueText}
 use Rattle.dbc_grammar.specs.declared.statement.SignalForm.{SignalForm}
 use Rattle.dbc_grammar.specs.declared.statement.MessageForm.{MessageForm}
 use Rattle.dbc_grammar.specs.Naming.{Noted, message_key, places_in, notes_on, is_first_message}
-use Rattle.dbc_grammar.specs.Gather.{AreEach, IsSignalAt, label_by, labels_of_text, labels_said, labels_in, message_marks, message_links}
+use Rattle.dbc_grammar.specs.Gather.{IsSignalAt, label_by, labels_of_text, labels_said, labels_in, message_marks, message_links}
 use Rattle.dbc_grammar.specs.Contract.{IsMessageAt}
 use Rattle.dbc_grammar.proofs.RowLaws.{rec-append, rec-all}
 
@@ -82,7 +82,7 @@ notes_made text utf8 (note ∷ notes) =
 
 -- the codings of a message's signals, and how many there are
 codings_made : (text : List ℕ) (utf8 : Bool) (noted : Noted) (named : Bool) (m : MessageForm) (n : ℕ) (forms : List SignalForm) (signals : List Signal) →
-    AreEach (IsSignalAt text utf8 noted named m) (enumerate_from n forms) signals → AllByRecursion (λ (s : Signal). IsCoding s.coding) signals
+    AllZip (IsSignalAt text utf8 noted named m) (enumerate_from n forms) signals → AllByRecursion (λ (s : Signal). IsCoding s.coding) signals
 codings_made text utf8 noted named m n [] [] each = tt
 codings_made text utf8 noted named m n [] (s ∷ signals) each = absurd each
 codings_made text utf8 noted named m n (f ∷ forms) [] each = absurd each
@@ -93,7 +93,7 @@ codings_made text utf8 noted named m n (f ∷ forms) (s ∷ signals) each =
       codings_made text utf8 noted named m (n + 1) forms signals each.1,
     )
 
-as_many : {A B : Type 0} (R : ℕ × A → B → Type 0) (n : ℕ) (xs : List A) (ys : List B) → AreEach R (enumerate_from n xs) ys → length ys ≡ length xs
+as_many : {A B : Type 0} (R : ℕ × A → B → Type 0) (n : ℕ) (xs : List A) (ys : List B) → AllZip R (enumerate_from n xs) ys → length ys ≡ length xs
 as_many R n [] [] each = refl
 as_many R n [] (y ∷ ys) each = absurd each
 as_many R n (x ∷ xs) [] each = absurd each
@@ -102,7 +102,7 @@ as_many R n (x ∷ xs) (y ∷ ys) each = ap suc (as_many R (n + 1) xs ys each.1)
 -- each tree is one over the message's signals
 pub messages_made : (text : List ℕ) (utf8 : Bool) (noted : Noted) (all : List MessageForm) (n : ℕ) (forms : List MessageForm) (messages : List Message) →
     ((marks : List Mark) (links : List Link) (parents : List (Option Parent)) → IsTree marks links parents → IsTreeOver (length marks) parents) →
-    AreEach (IsMessageAt text utf8 noted all) (enumerate_from n forms) messages → AllByRecursion IsMade messages
+    AllZip (IsMessageAt text utf8 noted all) (enumerate_from n forms) messages → AllByRecursion IsMade messages
 messages_made text utf8 noted all n [] [] over each = tt
 messages_made text utf8 noted all n [] (m ∷ messages) over each = absurd each
 messages_made text utf8 noted all n (f ∷ forms) [] over each = absurd each

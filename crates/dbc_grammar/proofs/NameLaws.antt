@@ -1,7 +1,7 @@
 -- The names of a database's messages and signals are words of the text, each of as many bytes as `check` lets through.
 use Rattle.std.proofs.Common.{◌≡◌, sym, subst, ℕ, ◌+◌, Bool, true, false, List, [], ◌∷◌, length}
-use Rattle.std.specs.Prelude.{All, ◌==◌, if◌then◌else◌}
-use Rattle.std.specs.List.{enumerate_from, AllByRecursion}
+use Rattle.std.specs.Prelude.{All, ◌==◌, ◌↔◌, Option, Some, if◌then◌else◌}
+use Rattle.std.specs.List.{enumerate_from, AllByRecursion, AllZip}
 use Rattle.bench_model.specs.declared.database.Signal.{Signal}
 use Rattle.bench_model.specs.declared.database.Message.{Message}
 use Rattle.bench_model.specs.declared.database.Database.{Database}
@@ -12,13 +12,15 @@ use Rattle.sig_text.specs.declared.token.TokenKind.{TokenKind}
 use Rattle.sig_text.specs.declared.token.Token.{Token}
 use Rattle.token_forms.specs.Names.{HasNames}
 use Rattle.token_forms.specs.Pieces.{token_text}
+use Rattle.token_forms.specs.Stands.{Each}
 use Rattle.dbc_grammar.specs.declared.statement.Statement.{Statement}
 use Rattle.dbc_grammar.specs.declared.statement.Statement.TheVariants as statement
 use Rattle.dbc_grammar.specs.declared.statement.SignalForm.{SignalForm}
 use Rattle.dbc_grammar.specs.declared.statement.MessageForm.{MessageForm}
+use Rattle.dbc_grammar.specs.Statements.{Stands}
 use Rattle.dbc_grammar.specs.Forms.{statement_at}
 use Rattle.dbc_grammar.specs.Naming.{Noted, noted_in, independent, is_first_message}
-use Rattle.dbc_grammar.specs.Gather.{AreEach, IsSignalAt, messages_in, messages_of, notes_of}
+use Rattle.dbc_grammar.specs.Gather.{IsSignalAt, messages_in, messages_of, notes_of}
 use Rattle.dbc_grammar.specs.Contract.{AreStatements, IsMessageAt, IsDatabaseOf}
 use Rattle.dbc_grammar.proofs.RowLaws.{rec-all, rec-append}
 use Rattle.dbc_grammar.proofs.FormLaws as forms
@@ -45,16 +47,30 @@ of_text : (text : List ℕ) (from : ℕ) (tokens : List Token) (to : ℕ) → Ar
 of_text text from [] to are = tt
 of_text text from (token ∷ tokens) to are = (are.1, of_text text token.end tokens to are.2)
 
-statements_name : (text : List ℕ) (statements : List Statement) → AreStatements text statements
+-- what stands is found
+abbrev pub FoundStatements : Type 0
+FoundStatements = (text : List ℕ) (tokens : List Token) (s : Statement) (rest : List Token)
+    → (statement_at text tokens ≡ Some (s, rest)) ↔ Stands text s tokens rest
+
+statement_names : (text : List ℕ) (tokens : List Token) → Of text tokens
+    → forms.IfFound (λ (found : Statement × List Token). NamesStatement text found.0 × Of text found.1) (statement_at text tokens)
+statement_names text tokens of =
+    forms.statement_of (Of text) (IsToken text) (inherited text) text tokens (forms.behind (Of text) (IsToken text) (inherited text) tokens of)
+
+run_names : FoundStatements → (text : List ℕ) (tokens : List Token) (statements : List Statement) (rest : List Token)
+    → Each (Stands text) statements tokens rest → Of text tokens → AllByRecursion (NamesStatement text) statements
+run_names law text tokens [] rest each of = tt
+run_names law text tokens (s ∷ statements) rest (middle, part, later) of =
+    let found = (law text tokens s middle).1 part in
+    let P : Option (Statement × List Token) → Type 0 =
+    forms.IfFound (λ (x : Statement × List Token). NamesStatement text x.0 × Of text x.1) in
+    let one = subst P found (statement_names text tokens of) in
+    (one.0, run_names law text middle statements rest later one.1)
+
+statements_name : FoundStatements → (text : List ℕ) (statements : List Statement) → AreStatements text statements
     → AllByRecursion (NamesStatement text) statements
-statements_name text statements are =
-    let of = of_text text 0 are.tokens (length text) are.are_tokens in
-    let P : List Statement × List Token → Type 0 = λ run. AllByRecursion (NamesStatement text) run.0 × Of text run.1 in
-    (subst P are.all
-    (forms.run_within_of (Of text) (IsToken text) (inherited text) text (NamesStatement text) (statement_at text)
-    (λ tokens here. forms.statement_of (Of text) (IsToken text) (inherited text) text tokens
-    (forms.behind (Of text) (IsToken text) (inherited text) tokens here))
-    (length are.tokens) are.tokens of)).0
+statements_name law text statements are =
+    run_names law text are.tokens statements [] are.all (of_text text 0 are.tokens (length text) are.are_tokens)
 
 -- the messages that are kept of them
 message_kept : (text : List ℕ) (m : MessageForm) (b : Bool) → NamesMessage text m
@@ -88,7 +104,7 @@ record HasWords (m : Message) : Type 0 where
 
 signals_words : (text : List ℕ) (utf8 : Bool) (noted : Noted) (named : Bool) (m : MessageForm) (n : ℕ) (forms : List SignalForm)
     (signals : List Signal)
-    → AllByRecursion (NamesSignal text) forms → AreEach (IsSignalAt text utf8 noted named m) (enumerate_from n forms) signals
+    → AllByRecursion (NamesSignal text) forms → AllZip (IsSignalAt text utf8 noted named m) (enumerate_from n forms) signals
     → AllByRecursion WordSignal signals
 signals_words text utf8 noted named m n [] [] names each = tt
 signals_words text utf8 noted named m n [] (s ∷ signals) names each = absurd each
@@ -98,7 +114,7 @@ signals_words text utf8 noted named m n (f ∷ forms) (s ∷ signals) names each
 
 messages_words : (text : List ℕ) (utf8 : Bool) (noted : Noted) (all : List MessageForm) (n : ℕ) (forms : List MessageForm)
     (messages : List Message)
-    → AllByRecursion (NamesMessage text) forms → AreEach (IsMessageAt text utf8 noted all) (enumerate_from n forms) messages
+    → AllByRecursion (NamesMessage text) forms → AllZip (IsMessageAt text utf8 noted all) (enumerate_from n forms) messages
     → AllByRecursion HasWords messages
 messages_words text utf8 noted all n [] [] names each = tt
 messages_words text utf8 noted all n [] (m ∷ messages) names each = absurd each
@@ -112,16 +128,16 @@ messages_words text utf8 noted all n (f ∷ forms) (m ∷ messages) names each =
   messages_words text utf8 noted all (n + 1) forms messages names.1 each.1,
 )
 
-all_words : (text : List ℕ) (d : Database) → IsDatabaseOf text d → All HasWords d.messages
-all_words text d is =
+all_words : FoundStatements → (text : List ℕ) (d : Database) → IsDatabaseOf text d → All HasWords d.messages
+all_words law text d is =
     let forms = messages_of is.statements in
     rec-all HasWords d.messages
     (messages_words text is.gathered.utf8 (noted_in text (notes_of is.statements)) forms 0 forms d.messages
-    (messages_name text is.statements (statements_name text is.statements is.are_statements)) is.gathered.messages)
+    (messages_name text is.statements (statements_name law text is.statements is.are_statements)) is.gathered.messages)
 
-pub names_of_text : (text : List ℕ) (d : Database) → IsDatabaseOf text d → KeepsRules d → HasNames d
-names_of_text text d is keeps = λ k e h.
-    let words = all_words text d is k e h in
+pub names_of_text : FoundStatements → (text : List ℕ) (d : Database) → IsDatabaseOf text d → KeepsRules d → HasNames d
+names_of_text law text d is keeps = λ k e h.
+    let words = all_words law text d is k e h in
     let rules = keeps.messages k e h in
     record {
       message = record { word = words.message; size = rules.name };

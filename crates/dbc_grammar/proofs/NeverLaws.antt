@@ -1,7 +1,7 @@
 -- Bytes that have a database have no fault.
-use Rattle.std.proofs.Common.{◌≡◌, ◌∙◌, sym, ap, subst, ℕ, ◌+◌, List, [], ◌∷◌, ◌++◌, length, Bool, false, arith, Option, ◌⊎◌, inl, inr, Ok, Err, Result, IsOkAnd, IfOk, IfErr}
+use Rattle.std.proofs.Common.{◌≡◌, ap, subst, ℕ, ◌+◌, List, [], ◌∷◌, ◌++◌, length, Bool, false, arith, Option, ◌⊎◌, inl, inr, Ok, Err, Result, IsOkAnd, IfOk, IfErr}
 use Rattle.std.specs.Prelude.{IsErrOf}
-use Rattle.std.specs.List.{enumerate_from, AllByRecursion}
+use Rattle.std.specs.List.{enumerate_from, AllByRecursion, AllZip}
 use Rattle.multiplex_tree.specs.declared.mark.Mark.{Mark}
 use Rattle.multiplex_tree.specs.declared.mark.Link.{Link}
 use Rattle.multiplex_tree.specs.declared.mark.Parent.{Parent}
@@ -16,19 +16,18 @@ use Rattle.bench_model.specs.Check.{IsValid, IsFirstFault}
 use Rattle.sig_text.specs.declared.token.Token.{Token}
 use Rattle.sig_text.specs.declared.fault.LexFault.{LexFault}
 use Rattle.sig_text.specs.Tokens.{IsTokens, IsLexFault}
-use Rattle.token_forms.specs.Runs.{run_of}
+use Rattle.token_forms.specs.Stands.{Each}
 use Rattle.dbc_grammar.specs.declared.fault.DbcFault.{DbcFault}
 use Rattle.dbc_grammar.specs.declared.fault.DbcFault.TheVariants as faults
-use Rattle.dbc_grammar.specs.declared.statement.SignalForm.{SignalForm}
 use Rattle.dbc_grammar.specs.declared.statement.MessageForm.{MessageForm}
 use Rattle.dbc_grammar.specs.declared.statement.Statement.{Statement}
-use Rattle.dbc_grammar.specs.Forms.{statement_at}
+use Rattle.dbc_grammar.specs.Statements.{Stands}
 use Rattle.dbc_grammar.specs.Naming.{Noted, noted_in, is_first_message}
-use Rattle.dbc_grammar.specs.Gather.{AreEach, IsTooWide, message_marks, message_links, messages_of, notes_of}
+use Rattle.dbc_grammar.specs.Gather.{message_marks, message_links, messages_of, notes_of}
 use Rattle.dbc_grammar.specs.Contract.{IsMessageAt, HasSomeTree, IsFirstWide, IsFirstTreeless, all_signals, AreStatements, EndsEarly, Gathers, IsDatabaseOf, HasFault, IsFaultOrMemory}
-use Rattle.dbc_grammar.proofs.WideLaws.{AreNarrow, narrow-append, made_narrow}
+use Rattle.dbc_grammar.proofs.WideLaws.{OneScale, AreScaled, scaled-append, made_scaled, never_wide}
 use Rattle.dbc_grammar.proofs.TreeLaws.{messages_have_trees}
-use Rattle.dbc_grammar.proofs.UniqueLaws.{OneDecimal, OneTree, OneReading, one_statements, one_gathered}
+use Rattle.dbc_grammar.proofs.UniqueLaws.{OneTree, OneReading, OneRun, one_statements, one_gathered}
 
 -- the laws of the layers below: what has the one has not the other
 abbrev pub NoLexFault : Type 0
@@ -41,19 +40,14 @@ abbrev pub NoBrokenRule : Type 0
 NoBrokenRule = (d : Database) (fault : CheckFault) → IsValid d → ¬ IsFirstFault d fault
 
 -- messages that were made have scales
-messages_narrow : (text : List ℕ) (utf8 : Bool) (noted : Noted) (all : List MessageForm) (n : ℕ) (forms : List MessageForm) (messages : List Message) →
-    AreEach (IsMessageAt text utf8 noted all) (enumerate_from n forms) messages → AreNarrow text (all_signals forms)
-messages_narrow text utf8 noted all n [] messages each = tt
-messages_narrow text utf8 noted all n (f ∷ forms) [] each = absurd each
-messages_narrow text utf8 noted all n (f ∷ forms) (m ∷ messages) each =
-    narrow-append text f.signals (all_signals forms)
-    (made_narrow text utf8 noted (is_first_message all n f) f 0 f.signals m.signals each.0.signals)
-    (messages_narrow text utf8 noted all (n + 1) forms messages each.1)
-
--- what holds of all holds in the middle
-pub narrow_inside : (text : List ℕ) (before after : List SignalForm) (s : SignalForm) → AreNarrow text (before ++ s ∷ after) → ¬ IsTooWide text s.scaling
-narrow_inside text [] after s narrow = narrow.0
-narrow_inside text (b ∷ before) after s narrow = narrow_inside text before after s narrow.1
+messages_scaled : (text : List ℕ) (utf8 : Bool) (noted : Noted) (all : List MessageForm) (n : ℕ) (forms : List MessageForm) (messages : List Message) →
+    AllZip (IsMessageAt text utf8 noted all) (enumerate_from n forms) messages → AreScaled text (all_signals forms)
+messages_scaled text utf8 noted all n [] messages each = tt
+messages_scaled text utf8 noted all n (f ∷ forms) [] each = absurd each
+messages_scaled text utf8 noted all n (f ∷ forms) (m ∷ messages) each =
+    scaled-append text f.signals (all_signals forms)
+    (made_scaled text utf8 noted (is_first_message all n f) f 0 f.signals m.signals each.0.signals)
+    (messages_scaled text utf8 noted all (n + 1) forms messages each.1)
 
 tree_inside : (P : ℕ × MessageForm → Type 0) (n k : ℕ) (before after : List MessageForm) (m : MessageForm) → k ≡ n + length before →
     AllByRecursion P (enumerate_from n (before ++ m ∷ after)) → P (k, m)
@@ -63,9 +57,9 @@ tree_inside P n k (b ∷ before) after m e all = tree_inside P (n + 1) k before 
 pub no_wide : (text : List ℕ) (statements : List Statement) (d : Database) (at : ℕ) → Gathers text statements d →
     ¬ IsFirstWide text (all_signals (messages_of statements)) at
 no_wide text statements d at g wide =
-    narrow_inside text wide.before wide.after wide.signal
-    (subst (λ (l : List SignalForm). AreNarrow text l) wide.cut
-    (messages_narrow text g.utf8 (noted_in text (notes_of statements)) (messages_of statements) 0 (messages_of statements) d.messages g.messages)) wide.wide
+    let forms = messages_of statements in
+    never_wide text (all_signals forms) wide.0 at
+    (messages_scaled text g.utf8 (noted_in text (notes_of statements)) forms 0 forms d.messages g.messages) wide.1
 
 pub no_treeless : NoTreeFault → (text : List ℕ) (statements : List Statement) (d : Database) (id : ℕ) (name : List ℕ) (why : MuxWhy) → Gathers text statements d →
     ¬ IsFirstTreeless text (noted_in text (notes_of statements)) (messages_of statements) id name why
@@ -81,32 +75,33 @@ nil_not_cons : (t : Token) (later : List Token) → ¬ ([] ≡ t ∷ later)
 nil_not_cons t later e = absurd cc
 
 -- where all statements are whole, no token is left
-pub not_early : OneReading → (bytes : List ℕ) (statements : List Statement) (at : ℕ) → AreStatements bytes statements → ¬ EndsEarly bytes at
-not_early reading bytes statements at are early =
+pub not_early : OneReading → OneRun → (bytes : List ℕ) (statements : List Statement) (at : ℕ) → AreStatements bytes statements → ¬ EndsEarly bytes at
+not_early reading run bytes statements at are early =
     let same = reading bytes false are.tokens early.tokens are.are_tokens early.are_tokens in
-    let none : [] ≡ (run_of (statement_at bytes) early.tokens).1 =
-    ap (λ (r : List Statement × List Token). r.1) (sym are.all) ∙ ap (λ (t : List Token). (run_of (statement_at bytes) t).1) same in
-    nil_not_cons early.token early.later (none ∙ early.rest)
+    let P : List Token → Type 0 = λ ts. Each (Stands bytes) statements ts [] in
+    let b = early.broken in
+    nil_not_cons b.token b.later
+    (run bytes early.tokens statements b.found [] (b.token ∷ b.later) (subst P same are.all) b.each).1
 
-pub never_both : OneDecimal → OneTree → OneReading → NoLexFault → NoTreeFault → NoBrokenRule → (bytes : List ℕ) (d : Database) (fault : DbcFault) →
+pub never_both : OneScale → OneTree → OneReading → OneRun → NoLexFault → NoTreeFault → NoBrokenRule → (bytes : List ℕ) (d : Database) (fault : DbcFault) →
     IsDatabaseOf bytes d → ¬ HasFault bytes fault
-never_both once tree reading lex treeless rule bytes d (faults.Lex fault) is has =
+never_both once tree reading run lex treeless rule bytes d (faults.Lex fault) is has =
     lex bytes false is.are_statements.tokens fault is.are_statements.are_tokens has
-never_both once tree reading lex treeless rule bytes d (faults.Statement at) is has = not_early reading bytes is.statements at is.are_statements has
-never_both once tree reading lex treeless rule bytes d (faults.Scale at) is has =
-    let same = one_statements reading bytes has.statements is.statements has.are_statements is.are_statements in
+never_both once tree reading run lex treeless rule bytes d (faults.Statement at) is has = not_early reading run bytes is.statements at is.are_statements has
+never_both once tree reading run lex treeless rule bytes d (faults.Scale at) is has =
+    let same = one_statements reading run bytes has.statements is.statements has.are_statements is.are_statements in
     no_wide bytes is.statements d at is.gathered
     (subst (λ (s : List Statement). IsFirstWide bytes (all_signals (messages_of s)) at) same has.wide)
-never_both once tree reading lex treeless rule bytes d (faults.Mux id name why) is has =
-    let same = one_statements reading bytes has.statements is.statements has.are_statements is.are_statements in
+never_both once tree reading run lex treeless rule bytes d (faults.Mux id name why) is has =
+    let same = one_statements reading run bytes has.statements is.statements has.are_statements is.are_statements in
     no_treeless treeless bytes is.statements d id name why is.gathered
     (subst (λ (s : List Statement). IsFirstTreeless bytes (noted_in bytes (notes_of s)) (messages_of s) id name why) same has.treeless)
-never_both once tree reading lex treeless rule bytes d (faults.Check fault) is has =
-    let same = one_statements reading bytes has.0 is.statements has.2 is.are_statements in
+never_both once tree reading run lex treeless rule bytes d (faults.Check fault) is has =
+    let same = one_statements reading run bytes has.0 is.statements has.2 is.are_statements in
     let gathered = subst (λ (s : List Statement). Gathers bytes s has.1) same has.3 in
     let database = one_gathered once tree bytes is.statements has.1 d gathered is.gathered in
     rule d fault is.valid (subst (λ (e : Database). IsFirstFault e fault) database has.4)
-never_both once tree reading lex treeless rule bytes d faults.Memory is has = has
+never_both once tree reading run lex treeless rule bytes d faults.Memory is has = has
 
 -- so what has a database is answered it, unless memory runs out
 pub database_answered : ((bytes : List ℕ) (d e : Database) → IsDatabaseOf bytes d → IsDatabaseOf bytes e → d ≡ e) →

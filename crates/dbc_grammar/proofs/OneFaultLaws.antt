@@ -3,6 +3,7 @@ use Rattle.std.proofs.Common.{◌≡◌, ◌∙◌, sym, ap, subst, refl, arith,
 use Rattle.std.proofs.Common.{Bool, false}
 use Rattle.std.specs.Prelude.{Option, Some, slice_get, IfOk, IfErr, IsErrOf}
 use Rattle.std.specs.List.{enumerate_from, AllByRecursion}
+use Rattle.decisions.specs.ListDecisions.{decides_first}
 use Rattle.multiplex_tree.specs.declared.mark.Mark.{Mark}
 use Rattle.multiplex_tree.specs.declared.mark.Link.{Link}
 use Rattle.multiplex_tree.specs.declared.fault.MuxWhy.{MuxWhy}
@@ -16,19 +17,20 @@ use Rattle.sig_text.specs.declared.token.Token.{Token}
 use Rattle.sig_text.specs.declared.fault.LexFault.{LexFault}
 use Rattle.sig_text.specs.Tokens.{IsLexFault}
 use Rattle.token_forms.specs.Pieces.{token_text}
-use Rattle.token_forms.specs.Runs.{run_of}
+use Rattle.token_forms.specs.Stands.{Each}
 use Rattle.dbc_grammar.specs.declared.fault.DbcFault.{DbcFault}
 use Rattle.dbc_grammar.specs.declared.fault.DbcFault.TheVariants as faults
 use Rattle.dbc_grammar.specs.declared.statement.SignalForm.{SignalForm}
 use Rattle.dbc_grammar.specs.declared.statement.MessageForm.{MessageForm}
 use Rattle.dbc_grammar.specs.declared.statement.Statement.{Statement}
-use Rattle.dbc_grammar.specs.Forms.{statement_at}
+use Rattle.dbc_grammar.specs.Statements.{Stands}
 use Rattle.dbc_grammar.specs.Naming.{Noted, noted_in, message_key, is_first_message}
-use Rattle.dbc_grammar.specs.Gather.{IsTooWide, message_marks, message_links, messages_of, notes_of}
-use Rattle.dbc_grammar.specs.Contract.{AreStatements, EndsEarly, Gathers, IsDatabaseOf, HasFault, IsFaultOrMemory, IsFirstWide}
+use Rattle.dbc_grammar.specs.Gather.{message_marks, message_links, messages_of, notes_of}
+use Rattle.dbc_grammar.specs.Contract.{AreStatements, EndsEarly, Gathers, IsDatabaseOf, HasFault, IsFaultOrMemory, HasScale, IsTooWideAt, IsFirstWide}
 use Rattle.dbc_grammar.specs.Contract.{IsScaleFault, fault_id, HasSomeTree, IsFirstTreeless, IsMuxFault, all_signals}
-use Rattle.dbc_grammar.proofs.UniqueLaws.{OneDecimal, OneTree, OneReading, one_statements, one_gathered}
-use Rattle.dbc_grammar.proofs.NeverLaws.{NoLexFault, NoTreeFault, NoBrokenRule, narrow_inside, not_early, no_wide, no_treeless}
+use Rattle.dbc_grammar.proofs.UniqueLaws.{OneTree, OneReading, OneRun, one_statements, one_gathered}
+use Rattle.dbc_grammar.proofs.WideLaws.{OneScale, SomeScale, scales_decide, never_wide}
+use Rattle.dbc_grammar.proofs.NeverLaws.{NoLexFault, NoTreeFault, NoBrokenRule, not_early, no_wide, no_treeless}
 
 abbrev pub OneLexFault : Type 0
 OneLexFault = (text : List ℕ) (comments : Bool) (a b : LexFault) → IsLexFault text comments a → IsLexFault text comments b → a ≡ b
@@ -41,13 +43,15 @@ OneTreeFault = (marks : List Mark) (links : List Link) (s t : ℕ) (why because 
 abbrev pub OneVerdict : Type 0
 OneVerdict = (d : Database) (f g : CheckFault) → IsFirstFault d f → IsFirstFault d g → f ≡ g
 
--- what the crates below say: tokens, decimals, trees and verdicts are one
+-- what the crates below say: tokens, runs, scales, trees and verdicts are one
 pub record Below : Type 0 where
-  pub decimal : OneDecimal
+  pub one_scale : OneScale
+  pub some_scale : SomeScale
   pub tree : OneTree
   pub treeless : OneTreeFault
   pub tree_apart : NoTreeFault
   pub reading : OneReading
+  pub run : OneRun
   pub lexical : OneLexFault
   pub lex_apart : NoLexFault
   pub verdict : OneVerdict
@@ -82,21 +86,6 @@ same_first {A} P n k j (a ∷ xs) [] x y later past k_is j_is cut before first n
 same_first P n k j (a ∷ xs) (b ∷ ys) x y later past k_is j_is cut before first not_x not_y =
     same_first P (n + 1) k j xs ys x y later past (omega arith) (omega arith)
     (tail_same a b (xs ++ x ∷ later) (ys ++ y ∷ past) cut) before.1 first.1 not_x not_y
-
--- the same of what does not depend on places
-numbered : {A : Type 0} (P : A → Type 0) (n : ℕ) (xs : List A) → AllByRecursion P xs
-    → AllByRecursion (λ (x : ℕ × A). P x.1) (enumerate_from n xs)
-numbered P n [] all = tt
-numbered P n (x ∷ xs) all = (all.0, numbered P (n + 1) xs all.1)
-
-same_wide : (text : List ℕ) (signals : List SignalForm) (a b : ℕ) → IsFirstWide text signals a → IsFirstWide text signals b → a ≡ b
-same_wide text signals a b p q =
-    let Narrow : SignalForm → Type 0 = λ s. ¬ IsTooWide text s.scaling in
-    let P : ℕ × SignalForm → Type 0 = λ x. Narrow x.1 in
-    let same = same_first P 0 (length p.before) (length q.before) p.before q.before p.signal q.signal p.after q.after (omega arith)
-    (omega arith) (sym p.cut ∙ q.cut)
-    (numbered Narrow 0 p.before p.first) (numbered Narrow 0 q.before q.first) (λ narrow. narrow p.wide) (λ narrow. narrow q.wide) in
-    p.place ∙ ap (λ (s : SignalForm). s.at) same.1 ∙ sym q.place
 
 -- ---- the first message without a tree, its signal and the reason are one
 
@@ -139,29 +128,33 @@ same_treeless below text noted messages i j m n v w p q =
 one_early : (below : Below) (bytes : List ℕ) (a b : ℕ) → EndsEarly bytes a → EndsEarly bytes b → a ≡ b
 one_early below bytes a b p q =
     let tokens : p.tokens ≡ q.tokens = below.reading bytes false p.tokens q.tokens p.are_tokens q.are_tokens in
-    let rest : p.token ∷ p.later ≡ q.token ∷ q.later = sym p.rest ∙ ap (λ (t : List Token). (run_of (statement_at bytes) t).1) tokens
-    ∙ q.rest in
-    p.place ∙ ap (λ (t : Token). t.at) (head_same p.token q.token p.later q.later rest) ∙ sym q.place
+    let x = p.broken in
+    let y = q.broken in
+    let P : List Token → Type 0 = λ ts. Each (Stands bytes) x.found ts (x.token ∷ x.later) in
+    let rest = (below.run bytes q.tokens x.found y.found (x.token ∷ x.later) (y.token ∷ y.later)
+    (subst P tokens x.each) y.each).1 in
+    x.place ∙ ap (λ (t : Token). t.at) (head_same x.token y.token x.later y.later rest) ∙ sym y.place
 
 one_wide : (below : Below) (bytes : List ℕ) (a b : ℕ) → IsScaleFault bytes a → IsScaleFault bytes b → a ≡ b
 one_wide below bytes a b p q =
-    let same = one_statements below.reading bytes p.statements q.statements p.are_statements q.are_statements in
+    let same = one_statements below.reading below.run bytes p.statements q.statements p.are_statements q.are_statements in
     let P : List Statement → Type 0 = λ s. IsFirstWide bytes (all_signals (messages_of s)) a in
-    same_wide bytes (all_signals (messages_of q.statements)) a b (subst P same p.wide) q.wide
+    (decides_first (HasScale bytes) (IsTooWideAt bytes) (scales_decide below.one_scale below.some_scale bytes)).only
+    (all_signals (messages_of q.statements)) a b (subst P same p.wide) q.wide
 
 one_mux : (below : Below) (bytes : List ℕ) (i j : ℕ) (m n : List ℕ) (v w : MuxWhy) → IsMuxFault bytes i m v → IsMuxFault bytes j n w
     → SameMux i j m n v w
 one_mux below bytes i j m n v w p q =
-    let same = one_statements below.reading bytes p.statements q.statements p.are_statements q.are_statements in
+    let same = one_statements below.reading below.run bytes p.statements q.statements p.are_statements q.are_statements in
     let P : List Statement → Type 0 = λ s. IsFirstTreeless bytes (noted_in bytes (notes_of s)) (messages_of s) i m v in
     same_treeless below bytes (noted_in bytes (notes_of q.statements)) (messages_of q.statements) i j m n v w
     (subst P same p.treeless) q.treeless
 
 one_check : (below : Below) (bytes : List ℕ) (f g : CheckFault) → HasFault bytes (faults.Check f) → HasFault bytes (faults.Check g) → f ≡ g
 one_check below bytes f g (s, d, are, gathers, first) (t, e, too, makes, other) =
-    let same = one_statements below.reading bytes s t are too in
+    let same = one_statements below.reading below.run bytes s t are too in
     let P : List Statement → Type 0 = λ s. Gathers bytes s d in
-    let database = one_gathered below.decimal below.tree bytes t d e (subst P same gathers) makes in
+    let database = one_gathered below.one_scale below.tree bytes t d e (subst P same gathers) makes in
     let Q : Database → Type 0 = λ x. IsFirstFault x f in
     below.verdict e f g (subst Q database first) other
 
@@ -170,22 +163,21 @@ one_check below bytes f g (s, d, are, gathers, first) (t, e, too, makes, other) 
 scale_or_tree : (below : Below) (bytes : List ℕ) (at id : ℕ) (name : List ℕ) (why : MuxWhy) → IsScaleFault bytes at
     → ¬ IsMuxFault bytes id name why
 scale_or_tree below bytes at id name why p q =
-    let same = one_statements below.reading bytes p.statements q.statements p.are_statements q.are_statements in
+    let same = one_statements below.reading below.run bytes p.statements q.statements p.are_statements q.are_statements in
     let P : List Statement → Type 0 = λ s. IsFirstWide bytes (all_signals (messages_of s)) at in
     let wide = subst P same p.wide in
-    let Narrow : List SignalForm → Type 0 = λ l. AllByRecursion (λ (s : SignalForm). ¬ IsTooWide bytes s.scaling) l in
-    narrow_inside bytes wide.before wide.after wide.signal (subst Narrow wide.cut q.narrow) wide.wide
+    never_wide bytes (all_signals (messages_of q.statements)) wide.0 at q.scaled wide.1
 
 scale_or_rule : (below : Below) (bytes : List ℕ) (at : ℕ) (f : CheckFault) → IsScaleFault bytes at → ¬ HasFault bytes (faults.Check f)
 scale_or_rule below bytes at f p (s, d, are, gathers, first) =
-    let same = one_statements below.reading bytes p.statements s p.are_statements are in
+    let same = one_statements below.reading below.run bytes p.statements s p.are_statements are in
     let P : List Statement → Type 0 = λ s. IsFirstWide bytes (all_signals (messages_of s)) at in
     no_wide bytes s d at gathers (subst P same p.wide)
 
 tree_or_rule : (below : Below) (bytes : List ℕ) (id : ℕ) (name : List ℕ) (why : MuxWhy) (f : CheckFault) → IsMuxFault bytes id name why
     → ¬ HasFault bytes (faults.Check f)
 tree_or_rule below bytes id name why f p (s, d, are, gathers, first) =
-    let same = one_statements below.reading bytes p.statements s p.are_statements are in
+    let same = one_statements below.reading below.run bytes p.statements s p.are_statements are in
     let P : List Statement → Type 0 = λ s. IsFirstTreeless bytes (noted_in bytes (notes_of s)) (messages_of s) id name why in
     no_treeless below.tree_apart bytes s d id name why gathers (subst P same p.treeless)
 
@@ -194,7 +186,7 @@ no_lexical : (below : Below) (bytes : List ℕ) (s : List Statement) (f : LexFau
 no_lexical below bytes s f are has = below.lex_apart bytes false are.tokens f are.are_tokens has
 
 whole : (below : Below) (bytes : List ℕ) (s : List Statement) (at : ℕ) → AreStatements bytes s → ¬ HasFault bytes (faults.Statement at)
-whole below bytes s at are has = not_early below.reading bytes s at are has
+whole below bytes s at are has = not_early below.reading below.run bytes s at are has
 
 mux_same : (i j : ℕ) (m n : List ℕ) (v w : MuxWhy) → SameMux i j m n v w → faults.Mux i m v ≡ faults.Mux j n w
 mux_same i j m n v w same = rw (same.id, same.name, same.why) refl

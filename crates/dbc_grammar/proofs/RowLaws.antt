@@ -2,7 +2,7 @@
 use Rattle.std.proofs.Common.{◌≡◌, ◌∙◌, sym, ap, subst, ℕ, zero, suc, ◌+◌, ◌<◌, ◌≤◌, List, [], ◌∷◌, ◌++◌, length, get_or, take, Bool, map, arith}
 use Rattle.std.proofs.Math.Path.{fun_ext}
 use Rattle.std.specs.Prelude.{All}
-use Rattle.std.specs.List.{flat_map, enumerate_from, AllByRecursion}
+use Rattle.std.specs.List.{flat_map, enumerate_from, AllByRecursion, AllZip}
 use Rattle.std.proofs.lemmas.List.{take_more, append-nil, map-append, length-map}
 use Rattle.std.proofs.lemmas.Grind.{flat_map-append}
 use Rattle.multiplex_tree.specs.declared.mark.Link.{Link}
@@ -16,7 +16,7 @@ use Rattle.dbc_grammar.specs.declared.statement.Says.TheVariants as says
 use Rattle.dbc_grammar.specs.declared.statement.SignalForm.{SignalForm}
 use Rattle.dbc_grammar.specs.declared.statement.MessageForm.{MessageForm}
 use Rattle.dbc_grammar.specs.Naming.{Noted, Places, message_key, places_in, notes_on, is_first_message}
-use Rattle.dbc_grammar.specs.Gather.{AreEach, IsSignalOf, IsSignalAt, links_in, links_said, signal_links, message_links, message_marks}
+use Rattle.dbc_grammar.specs.Gather.{IsSignalOf, IsSignalAt, links_in, links_said, signal_links, message_links, message_marks}
 use Rattle.dbc_grammar.specs.Rows.{IsRowOf, IsRowAt}
 use Rattle.dbc_grammar.proofs.ListLaws.{each_more, enumerated_more}
 
@@ -33,16 +33,16 @@ pub signals_go_on : (text : List ℕ) (utf8 : Bool) (noted : Noted) (named : Boo
     (done new : List Signal) (notes : List Note) (s : Signal) → i < length m.signals → place_of ≡ places_in text m →
     IsSignalOf text utf8 (get_or m.signals i d) notes s →
     notes ≡ notes_on text noted place_of named (message_key m) i (get_or m.signals i d) →
-    AreEach (IsSignalAt text utf8 noted named m) (enumerate_from 0 (take i m.signals)) done → new ≡ done ++ s ∷ [] →
-    AreEach (IsSignalAt text utf8 noted named m) (enumerate_from 0 (take (i + 1) m.signals)) new
+    AllZip (IsSignalAt text utf8 noted named m) (enumerate_from 0 (take i m.signals)) done → new ≡ done ++ s ∷ [] →
+    AllZip (IsSignalAt text utf8 noted named m) (enumerate_from 0 (take (i + 1) m.signals)) new
 signals_go_on text utf8 noted named m place_of i d done new notes s below places is noted_is each added =
     let form = get_or m.signals i d in
     let all : notes ≡ notes_on text noted (places_in text m) named (message_key m) i form =
     noted_is ∙ ap (λ (p : Places). notes_on text noted p named (message_key m) i form) places in
     let one : IsSignalAt text utf8 noted named m (i, form) s = subst (λ ns. IsSignalOf text utf8 form ns s) all is in
     let more = each_more (IsSignalAt text utf8 noted named m) (enumerate_from 0 (take i m.signals)) done (i, form) s each one in
-    subst (λ ys. AreEach (IsSignalAt text utf8 noted named m) (enumerate_from 0 (take (i + 1) m.signals)) ys) (sym added)
-    (subst (λ xs. AreEach (IsSignalAt text utf8 noted named m) xs (done ++ s ∷ [])) (sym (enumerated_more m.signals i d below)) more)
+    subst (λ ys. AllZip (IsSignalAt text utf8 noted named m) (enumerate_from 0 (take (i + 1) m.signals)) ys) (sym added)
+    (subst (λ xs. AllZip (IsSignalAt text utf8 noted named m) xs (done ++ s ∷ [])) (sym (enumerated_more m.signals i d below)) more)
 
 pub links_go_on : (text : List ℕ) (noted : Noted) (named : Bool) (m : MessageForm) (place_of : Places) (i : ℕ) (d : SignalForm)
     (old new : List Link) (notes : List Note) → i < length m.signals → place_of ≡ places_in text m →
@@ -65,8 +65,8 @@ pub signals_go_on_in : (text : List ℕ) (utf8 : Bool) (noted : Noted) (named : 
     (done new : List Signal) (listed said : List Note) (s : Signal) (key : Key) → forms ≡ m.signals → i < length forms → place_of ≡ places_in text m → key ≡ message_key m →
     IsSignalOf text utf8 (get_or forms i d) listed s →
     said ≡ notes_on text noted place_of named key i (get_or forms i d) → listed ≡ said →
-    AreEach (IsSignalAt text utf8 noted named m) (enumerate_from 0 (take i m.signals)) done → new ≡ done ++ s ∷ [] →
-    AreEach (IsSignalAt text utf8 noted named m) (enumerate_from 0 (take (i + 1) m.signals)) new
+    AllZip (IsSignalAt text utf8 noted named m) (enumerate_from 0 (take i m.signals)) done → new ≡ done ++ s ∷ [] →
+    AllZip (IsSignalAt text utf8 noted named m) (enumerate_from 0 (take (i + 1) m.signals)) new
 signals_go_on_in text utf8 noted named m place_of forms i d done new listed said s key same below places keys is noted_is read each added =
     signals_go_on text utf8 noted named m place_of i d done new listed s
     (subst (λ (fs : List SignalForm). i < length fs) same below) places
@@ -108,14 +108,14 @@ row_with text utf8 f g named also m row notes names is =
 -- one more row
 pub rows_go_on : (text : List ℕ) (utf8 : Bool) (noted : Noted) (messages : List MessageForm) (i : ℕ) (m : MessageForm) (done new : List Row) (row : Row) →
     i < length messages → m ≡ get_or messages i m → IsRowOf text utf8 noted (is_first_message messages i m) m row →
-    AreEach (IsRowAt text utf8 noted messages) (enumerate_from 0 (take i messages)) done → new ≡ done ++ row ∷ [] →
-    AreEach (IsRowAt text utf8 noted messages) (enumerate_from 0 (take (i + 1) messages)) new
+    AllZip (IsRowAt text utf8 noted messages) (enumerate_from 0 (take i messages)) done → new ≡ done ++ row ∷ [] →
+    AllZip (IsRowAt text utf8 noted messages) (enumerate_from 0 (take (i + 1) messages)) new
 rows_go_on text utf8 noted messages i m done new row below there is each added =
     let R = IsRowAt text utf8 noted messages in
     let one : R (i, get_or messages i m) row =
     subst (λ (x : MessageForm). IsRowOf text utf8 noted (is_first_message messages i x) x row) there is in
-    subst (λ ys. AreEach R (enumerate_from 0 (take (i + 1) messages)) ys) (sym added)
-    (subst (λ xs. AreEach R xs (done ++ row ∷ [])) (sym (enumerated_more messages i m below))
+    subst (λ ys. AllZip R (enumerate_from 0 (take (i + 1) messages)) ys) (sym added)
+    (subst (λ xs. AllZip R xs (done ++ row ∷ [])) (sym (enumerated_more messages i m below))
     (each_more R (enumerate_from 0 (take i messages)) done (i, get_or messages i m) row each one))
 
 -- ---- the child of each link is a signal of the message

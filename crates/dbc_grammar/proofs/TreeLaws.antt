@@ -1,6 +1,6 @@
 -- Messages out of statements and rows, and the first that has no tree.
 use Rattle.std.proofs.Common.{◌≡◌, ◌∙◌, sym, ap, subst, ℕ, ◌+◌, ◌<◌, List, [], ◌∷◌, ◌++◌, length, get_or, take, drop, suc, Bool, arith, add-one}
-use Rattle.std.specs.List.{enumerate_from, AllByRecursion}
+use Rattle.std.specs.List.{enumerate_from, AllByRecursion, AllZip}
 use Rattle.std.proofs.Math.Seq.{drop-cons}
 use Rattle.std.proofs.lemmas.List.{length-take}
 use Rattle.multiplex_tree.specs.declared.mark.Mark.{Mark}
@@ -13,7 +13,7 @@ use Rattle.dbc_grammar.specs.declared.fault.DbcFault.TheVariants as faults
 use Rattle.dbc_grammar.specs.declared.row.Row.{Row}
 use Rattle.dbc_grammar.specs.declared.statement.MessageForm.{MessageForm}
 use Rattle.dbc_grammar.specs.Naming.{Noted, is_first_message}
-use Rattle.dbc_grammar.specs.Gather.{AreEach, AreSignalsOf, message_marks}
+use Rattle.dbc_grammar.specs.Gather.{AreSignalsOf, message_marks}
 use Rattle.dbc_grammar.specs.Contract.{IsMessageAt, HasSomeTree}
 use Rattle.dbc_grammar.specs.Rows.{IsRowAt}
 use Rattle.dbc_grammar.specs.Reads.{IsMessageOf, IsTreeFault, IsTreelessFault}
@@ -36,19 +36,19 @@ message_of_row text utf8 noted forms i form row m is made =
 
 -- what is done, and the rows that are ahead
 pub record IsUnderWay (text : List ℕ) (utf8 : Bool) (noted : Noted) (forms : List MessageForm) (i : ℕ) (done : List Message) (ahead : List Row) : Type 0 where
-  pub messages : AreEach (IsMessageAt text utf8 noted forms) (enumerate_from 0 (take i forms)) done
-  pub rows : AreEach (IsRowAt text utf8 noted forms) (enumerate_from i (drop i forms)) ahead
+  pub messages : AllZip (IsMessageAt text utf8 noted forms) (enumerate_from 0 (take i forms)) done
+  pub rows : AllZip (IsRowAt text utf8 noted forms) (enumerate_from i (drop i forms)) ahead
 
 -- the next row is that of the next statement
 pub next_row : (text : List ℕ) (utf8 : Bool) (noted : Noted) (forms : List MessageForm) (i : ℕ) (form : MessageForm) (done : List Message) (ahead left : List Row) (row : Row) →
     i < length forms → form ≡ get_or forms i form → ahead ≡ row ∷ left → IsUnderWay text utf8 noted forms i done ahead →
-    IsRowAt text utf8 noted forms (i, form) row × AreEach (IsRowAt text utf8 noted forms) (enumerate_from (i + 1) (drop (i + 1) forms)) left
+    IsRowAt text utf8 noted forms (i, form) row × AllZip (IsRowAt text utf8 noted forms) (enumerate_from (i + 1) (drop (i + 1) forms)) left
 next_row text utf8 noted forms i form done ahead left row below there popped way =
     let R = IsRowAt text utf8 noted forms in
     let front : drop i forms ≡ form ∷ drop (i + 1) forms =
     drop-cons forms i form below ∙ ap (λ (m : MessageForm). m ∷ drop (suc i) forms) (sym there) ∙ ap (λ k. form ∷ drop k forms) (sym (add-one i)) in
-    let each = subst (λ xs. AreEach R (enumerate_from i xs) (row ∷ left)) front
-    (subst (λ ys. AreEach R (enumerate_from i (drop i forms)) ys) popped way.rows) in
+    let each = subst (λ xs. AllZip R (enumerate_from i xs) (row ∷ left)) front
+    (subst (λ ys. AllZip R (enumerate_from i (drop i forms)) ys) popped way.rows) in
     (each.0, each.1)
 
 pub one_more_message : (text : List ℕ) (utf8 : Bool) (noted : Noted) (forms : List MessageForm) (i : ℕ) (form : MessageForm) (done new : List Message)
@@ -61,15 +61,15 @@ one_more_message text utf8 noted forms i form done new ahead left row m below th
     let one : R (i, get_or forms i form) m =
     subst (λ (x : MessageForm). R (i, x) m) there (message_of_row text utf8 noted forms i form row m next.0 made) in
     record {
-      messages = subst (λ ys. AreEach R (enumerate_from 0 (take (i + 1) forms)) ys) (sym added)
-          (subst (λ xs. AreEach R xs (done ++ m ∷ [])) (sym (enumerated_more forms i form below))
+      messages = subst (λ ys. AllZip R (enumerate_from 0 (take (i + 1) forms)) ys) (sym added)
+          (subst (λ xs. AllZip R xs (done ++ m ∷ [])) (sym (enumerated_more forms i form below))
           (each_more R (enumerate_from 0 (take i forms)) done (i, get_or forms i form) m way.messages one));
       rows = next.1;
     }
 
 -- messages have trees
 pub messages_have_trees : (text : List ℕ) (utf8 : Bool) (noted : Noted) (all : List MessageForm) (n : ℕ) (forms : List MessageForm) (messages : List Message) →
-    AreEach (IsMessageAt text utf8 noted all) (enumerate_from n forms) messages → AllByRecursion (HasSomeTree text noted all) (enumerate_from n forms)
+    AllZip (IsMessageAt text utf8 noted all) (enumerate_from n forms) messages → AllByRecursion (HasSomeTree text noted all) (enumerate_from n forms)
 messages_have_trees text utf8 noted all n [] messages each = tt
 messages_have_trees text utf8 noted all n (f ∷ forms) [] each = absurd each
 messages_have_trees text utf8 noted all n (f ∷ forms) (m ∷ messages) each =

@@ -1,10 +1,8 @@
 -- Bytes have one database at most.
-use Rattle.std.proofs.Common.{◌≡◌, ◌∙◌, sym, ap, subst, ℕ, List, [], ◌∷◌, Bool, true, false, max, refl, Option, ℤ}
+use Rattle.std.proofs.Common.{◌≡◌, ◌∙◌, sym, ap, subst, ℕ, List, [], ◌∷◌, Bool, true, false, refl, Option}
 use Rattle.std.specs.Prelude.{IsTrue, ◌↔◌, IsUtf8}
-use Rattle.std.specs.List.{enumerate_from, flat_map}
+use Rattle.std.specs.List.{enumerate_from, flat_map, AllZip}
 use Rattle.exact_scale.specs.declared.scaling.Scale.{Scale}
-use Rattle.exact_scale.specs.Spelling.{Denotes}
-use Rattle.exact_scale.specs.Limits.{numerator_over}
 use Rattle.multiplex_tree.specs.declared.mark.Mark.{Mark}
 use Rattle.multiplex_tree.specs.declared.mark.Link.{Link}
 use Rattle.multiplex_tree.specs.declared.mark.Parent.{Parent}
@@ -21,51 +19,37 @@ use Rattle.sig_text.specs.Content.{content_of}
 use Rattle.sig_text.specs.declared.token.Token.{Token}
 use Rattle.sig_text.specs.Tokens.{IsTokens}
 use Rattle.token_forms.specs.Numbers.{signed_text}
-use Rattle.token_forms.specs.Runs.{run_of}
+use Rattle.token_forms.specs.Stands.{Each}
 use Rattle.dbc_grammar.specs.declared.statement.Note.{Note}
-use Rattle.dbc_grammar.specs.declared.statement.Scaling.{Scaling}
 use Rattle.dbc_grammar.specs.declared.statement.SignalForm.{SignalForm}
 use Rattle.dbc_grammar.specs.declared.statement.MessageForm.{MessageForm}
 use Rattle.dbc_grammar.specs.declared.statement.Statement.{Statement}
-use Rattle.dbc_grammar.specs.Forms.{statement_at}
+use Rattle.dbc_grammar.specs.Statements.{Stands}
 use Rattle.dbc_grammar.specs.Naming.{Noted, noted_in, is_first_message}
-use Rattle.dbc_grammar.specs.Gather.{AreEach, IsScaleOf, IsSignalOf, IsSignalAt, labels_in, messages_of, notes_of}
+use Rattle.dbc_grammar.specs.Gather.{IsSignalOf, IsSignalAt, labels_in, messages_of, notes_of}
 use Rattle.dbc_grammar.specs.Contract.{AreStatements, IsMessageAt, Gathers, IsDatabaseOf}
+use Rattle.dbc_grammar.proofs.WideLaws.{OneScale}
 
--- the laws of the layers below: a text denotes one decimal, marks and links have one tree, a text has one list of tokens
-abbrev pub OneDecimal : Type 0
-OneDecimal = (t : List ℕ) (n m : ℤ) (k j : ℕ) → Denotes t n k → Denotes t m j → (n ≡ m) × (k ≡ j)
-
+-- the laws of the layers below: marks and links have one tree, a text has one list of tokens, and a form one longest run
 abbrev pub OneTree : Type 0
 OneTree = (marks : List Mark) (links : List Link) (a b : List (Option Parent)) → IsTree marks links a → IsTree marks links b → a ≡ b
 
 abbrev pub OneReading : Type 0
 OneReading = (text : List ℕ) (comments : Bool) (a b : List Token) → IsTokens text comments a → IsTokens text comments b → a ≡ b
 
-make_scale : ℤ → ℤ → ℕ → Scale
-make_scale factor offset k = record { factor = factor; offset = offset; k = k }
-
-pub one_scale : OneDecimal → (text : List ℕ) (scaling : Scaling) (a b : Scale) → IsScaleOf text scaling a → IsScaleOf text scaling b → a ≡ b
-unfolding make_scale
-one_scale once text scaling a b sa sb =
-    let f = once (signed_text text scaling.factor) sa.factor sb.factor sa.factor_places sb.factor_places sa.factor_denoted sb.factor_denoted in
-    let o = once (signed_text text scaling.offset) sa.offset sb.offset sa.offset_places sb.offset_places sa.offset_denoted sb.offset_denoted in
-    let k : a.k ≡ b.k = sa.places ∙ ap (λ p. max p sa.offset_places) f.1 ∙ ap (λ p. max sb.factor_places p) o.1 ∙ sym sb.places in
-    let factor : a.factor ≡ b.factor = sa.factor_is ∙ ap (λ p. numerator_over p sa.factor sa.factor_places) k
-    ∙ ap (λ n. numerator_over b.k n sa.factor_places) f.0 ∙ ap (λ p. numerator_over b.k sb.factor p) f.1 ∙ sym sb.factor_is in
-    let offset : a.offset ≡ b.offset = sa.offset_is ∙ ap (λ p. numerator_over p sa.offset sa.offset_places) k
-    ∙ ap (λ n. numerator_over b.k n sa.offset_places) o.0 ∙ ap (λ p. numerator_over b.k sb.offset p) o.1 ∙ sym sb.offset_is in
-    ap (λ n. make_scale n a.offset a.k) factor ∙ ap (λ n. make_scale b.factor n a.k) offset ∙ ap (λ p. make_scale b.factor b.offset p) k
+abbrev pub OneRun : Type 0
+OneRun = (text : List ℕ) (tokens : List Token) (xs ys : List Statement) (rest left : List Token) →
+    Each (Stands text) xs tokens rest → Each (Stands text) ys tokens left → (xs ≡ ys) × (rest ≡ left)
 
 make_signal : List ℕ → ℕ → ℕ → Order → Bool → Bool → Coding → Signal
 make_signal name start size order signed float coding =
     record { name = name; start = start; size = size; order = order; signed = signed; float = float; coding = coding }
 
-one_signal : OneDecimal → (text : List ℕ) (utf8 : Bool) (form : SignalForm) (notes : List Note) (a b : Signal) →
+one_signal : OneScale → (text : List ℕ) (utf8 : Bool) (form : SignalForm) (notes : List Note) (a b : Signal) →
     IsSignalOf text utf8 form notes a → IsSignalOf text utf8 form notes b → a ≡ b
 unfolding make_signal
 one_signal once text utf8 form notes a b sa sb =
-    let scale = one_scale once text form.scaling sa.scale sb.scale sa.is_scale sb.is_scale in
+    let scale = once (signed_text text form.scaling.factor) (signed_text text form.scaling.offset) sa.scale sb.scale sa.is_scale sb.is_scale in
     let coding : a.coding ≡ b.coding = sa.coding
     ∙ ap (λ (s : Scale). Scaled s (content_of text form.unit utf8) (flat_map (labels_in text utf8) notes)) scale ∙ sym sb.coding in
     ap (λ n. make_signal n a.start a.size a.order a.signed a.float a.coding) (sa.name ∙ sym sb.name)
@@ -78,7 +62,7 @@ one_signal once text utf8 form notes a b sa sb =
 
 -- lists whose elements are determined are
 each_once : {A B : Type 0} (R : A → B → Type 0) → ((a : A) (x y : B) → R a x → R a y → x ≡ y) →
-    (keys : List A) (xs ys : List B) → AreEach R keys xs → AreEach R keys ys → xs ≡ ys
+    (keys : List A) (xs ys : List B) → AllZip R keys xs → AllZip R keys ys → xs ≡ ys
 each_once R once [] [] [] e f = refl
 each_once R once [] [] (y ∷ ys) e f = absurd f
 each_once R once [] (x ∷ xs) ys e f = absurd e
@@ -93,7 +77,7 @@ make_tree parents = record { parents = parents }
 make_message : List ℕ → Key → ℕ → List Signal → Tree → Message
 make_message name key size signals tree = record { name = name; key = key; length = size; signals = signals; tree = tree }
 
-one_message : OneDecimal → OneTree → (text : List ℕ) (utf8 : Bool) (noted : Noted) (forms : List MessageForm) (x : ℕ × MessageForm) (a b : Message) →
+one_message : OneScale → OneTree → (text : List ℕ) (utf8 : Bool) (noted : Noted) (forms : List MessageForm) (x : ℕ × MessageForm) (a b : Message) →
     IsMessageAt text utf8 noted forms x a → IsMessageAt text utf8 noted forms x b → a ≡ b
 unfolding make_message make_tree
 one_message once tree text utf8 noted forms x a b ma mb =
@@ -114,29 +98,29 @@ one_bool P true false f g = sym (g.1 (f.0 refl))
 one_bool P false true f g = f.1 (g.0 refl)
 one_bool P false false f g = refl
 
-pub one_statements : OneReading → (text : List ℕ) (a b : List Statement) → AreStatements text a → AreStatements text b → a ≡ b
-one_statements once text a b sa sb =
+pub one_statements : OneReading → OneRun → (text : List ℕ) (a b : List Statement) → AreStatements text a → AreStatements text b → a ≡ b
+one_statements once run text a b sa sb =
     let tokens = once text false sa.tokens sb.tokens sa.are_tokens sb.are_tokens in
-    ap (λ (r : List Statement × List Token). r.0)
-    (sym sa.all ∙ ap (λ (t : List Token). run_of (statement_at text) t) tokens ∙ sb.all)
+    let P : List Token → Type 0 = λ ts. Each (Stands text) a ts [] in
+    (run text sb.tokens a b [] [] (subst P tokens sa.all) sb.all).0
 
 make_database : List Message → Database
 make_database messages = record { messages = messages }
 
-pub one_gathered : OneDecimal → OneTree → (text : List ℕ) (statements : List Statement) (d e : Database) →
+pub one_gathered : OneScale → OneTree → (text : List ℕ) (statements : List Statement) (d e : Database) →
     Gathers text statements d → Gathers text statements e → d ≡ e
 unfolding make_database
 one_gathered once tree text statements d e gd ge =
     let utf8 : gd.utf8 ≡ ge.utf8 = one_bool (IsUtf8 text) gd.utf8 ge.utf8 gd.is_utf8 ge.is_utf8 in
     let noted = noted_in text (notes_of statements) in
     let forms = messages_of statements in
-    let same = subst (λ (u : Bool). AreEach (IsMessageAt text u noted forms) (enumerate_from 0 forms) d.messages) utf8 gd.messages in
+    let same = subst (λ (u : Bool). AllZip (IsMessageAt text u noted forms) (enumerate_from 0 forms) d.messages) utf8 gd.messages in
     ap make_database
     (each_once (IsMessageAt text ge.utf8 noted forms) (λ x a b is_a is_b. one_message once tree text ge.utf8 noted forms x a b is_a is_b)
     (enumerate_from 0 forms) d.messages e.messages same ge.messages)
 
-pub one_database : OneDecimal → OneTree → OneReading → (bytes : List ℕ) (d e : Database) → IsDatabaseOf bytes d → IsDatabaseOf bytes e → d ≡ e
-one_database once tree reading bytes d e id ie =
-    let statements = one_statements reading bytes id.statements ie.statements id.are_statements ie.are_statements in
+pub one_database : OneScale → OneTree → OneReading → OneRun → (bytes : List ℕ) (d e : Database) → IsDatabaseOf bytes d → IsDatabaseOf bytes e → d ≡ e
+one_database once tree reading run bytes d e id ie =
+    let statements = one_statements reading run bytes id.statements ie.statements id.are_statements ie.are_statements in
     one_gathered once tree bytes ie.statements d e
     (subst (λ (s : List Statement). Gathers bytes s d) statements id.gathered) ie.gathered

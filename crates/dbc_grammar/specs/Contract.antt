@@ -1,6 +1,8 @@
 -- The database of a text, and the fault of any other.
 use Rattle.std.specs.Prelude.{◌≡◌, ℕ, ◌+◌, ◌↔◌, ◌⊎◌, Bool, false, IsTrue, IsUtf8, List, [], ◌∷◌, ◌++◌, length, slice_get, Option, Some, if◌then◌else◌}
-use Rattle.std.specs.List.{flat_map, enumerate_from, AllByRecursion}
+use Rattle.std.specs.List.{flat_map, enumerate_from, AllByRecursion, AllZip}
+use Rattle.decisions.specs.ListDecisions.{FirstFailsFor}
+use Rattle.exact_scale.specs.declared.scaling.Scale.{Scale}
 use Rattle.multiplex_tree.specs.declared.fault.MuxWhy.{MuxWhy}
 use Rattle.multiplex_tree.specs.declared.fault.MuxFault.TheVariants as mux
 use Rattle.multiplex_tree.specs.declared.mark.Parent.{Parent}
@@ -12,44 +14,46 @@ use Rattle.bench_model.specs.Check.{IsValid, IsFirstFault}
 use Rattle.sig_text.specs.declared.token.Token.{Token}
 use Rattle.sig_text.specs.Tokens.{IsTokens, IsLexFault}
 use Rattle.token_forms.specs.Pieces.{token_text}
-use Rattle.token_forms.specs.Runs.{run_of}
+use Rattle.token_forms.specs.Stands.{Each, BreaksAt}
 use Rattle.dbc_grammar.specs.declared.fault.DbcFault.{DbcFault}
 use Rattle.dbc_grammar.specs.declared.fault.DbcFault.TheVariants as faults
 use Rattle.dbc_grammar.specs.declared.statement.Statement.{Statement}
 use Rattle.dbc_grammar.specs.declared.statement.SignalForm.{SignalForm}
 use Rattle.dbc_grammar.specs.declared.statement.MessageForm.{MessageForm}
-use Rattle.dbc_grammar.specs.Forms.{statement_at}
+use Rattle.dbc_grammar.specs.Limits.{first_long_id}
+use Rattle.dbc_grammar.specs.Statements.{Stands}
 use Rattle.dbc_grammar.specs.Naming.{Noted, noted_in, message_key, is_first_message}
-use Rattle.dbc_grammar.specs.Gather.{messages_of, notes_of, AreEach, IsTooWide, AreSignalsOf, message_links, message_marks}
+use Rattle.dbc_grammar.specs.Gather.{messages_of, notes_of, IsScaleOf, IsTooWide, AreSignalsOf, message_links, message_marks}
 
 -- the text is a list of whole statements
 pub record AreStatements (text : List ℕ) (statements : List Statement) : Type 0 where
   pub tokens : List Token
   pub are_tokens : IsTokens text false tokens
-  pub all : run_of (statement_at text) tokens ≡ (statements, [])
+  pub all : Each (Stands text) statements tokens []
 
 -- the text has tokens, and this is the first token after its longest run of whole statements
 pub record EndsEarly (text : List ℕ) (at : ℕ) : Type 0 where
   pub tokens : List Token
   pub are_tokens : IsTokens text false tokens
-  pub token : Token
-  pub later : List Token
-  pub rest : (run_of (statement_at text) tokens).1 ≡ token ∷ later
-  pub place : at ≡ token.at
+  pub broken : BreaksAt (Stands text) tokens at
 
 -- the signals of all messages, in file order
 abbrev pub all_signals : List MessageForm → List SignalForm
 all_signals messages = flat_map (λ (m : MessageForm). m.signals) messages
 
+-- the scale of a signal, or its place where its factor and offset are too wide
+abbrev pub HasScale : List ℕ → SignalForm → Scale → Type 0
+HasScale text s scale = IsScaleOf text s.scaling scale
+
+abbrev pub IsTooWideAt : List ℕ → SignalForm → ℕ → Type 0
+IsTooWideAt text s at = (at ≡ s.at) × IsTooWide text s.scaling
+
+abbrev pub HasSomeScale : List ℕ → SignalForm → Type 0
+HasSomeScale text s = (scale : Scale) × HasScale text s scale
+
 -- the first signal whose factor and offset are too wide
-pub record IsFirstWide (text : List ℕ) (signals : List SignalForm) (at : ℕ) : Type 0 where
-  pub before : List SignalForm
-  pub signal : SignalForm
-  pub after : List SignalForm
-  pub cut : signals ≡ before ++ signal ∷ after
-  pub place : at ≡ signal.at
-  pub wide : IsTooWide text signal.scaling
-  pub first : AllByRecursion (λ (s : SignalForm). ¬ IsTooWide text s.scaling) before
+abbrev pub IsFirstWide : List ℕ → List SignalForm → ℕ → Type 0
+IsFirstWide text signals at = FirstFailsFor (HasScale text) (IsTooWideAt text) signals at
 
 -- the marks and the links of the message at its place have this tree, or this fault
 abbrev pub HasTree : List ℕ → Noted → List MessageForm → ℕ × MessageForm → List (Option Parent) → Type 0
@@ -68,7 +72,7 @@ pub record IsMessageAt (text : List ℕ) (utf8 : Bool) (noted : Noted) (messages
 pub record Gathers (text : List ℕ) (statements : List Statement) (d : Database) : Type 0 where
   pub utf8 : Bool
   pub is_utf8 : IsTrue utf8 ↔ IsUtf8 text
-  pub messages : AreEach (IsMessageAt text utf8 (noted_in text (notes_of statements)) (messages_of statements))
+  pub messages : AllZip (IsMessageAt text utf8 (noted_in text (notes_of statements)) (messages_of statements))
       (enumerate_from 0 (messages_of statements)) d.messages
 
 -- the bytes have this database, which is valid
@@ -85,7 +89,7 @@ pub record IsScaleFault (bytes : List ℕ) (at : ℕ) : Type 0 where
 
 -- the identifier of a message as faults give it: bits 29 and 30 are left out
 abbrev pub fault_id : Key → ℕ
-fault_id key = if key.extended then key.id + 2147483648 else key.id
+fault_id key = if key.extended then key.id + first_long_id else key.id
 
 -- the message at its place has a tree
 abbrev pub HasSomeTree : List ℕ → Noted → List MessageForm → ℕ × MessageForm → Type 0
@@ -107,11 +111,11 @@ pub record IsFirstTreeless (text : List ℕ) (noted : Noted) (messages : List Me
   pub id_is : id ≡ fault_id (message_key message)
   pub name_is : name ≡ token_text text form.name
 
--- the first message without a tree, where no scaling is too wide
+-- the first message without a tree, where each signal has a scale
 pub record IsMuxFault (bytes : List ℕ) (id : ℕ) (name : List ℕ) (why : MuxWhy) : Type 0 where
   pub statements : List Statement
   pub are_statements : AreStatements bytes statements
-  pub narrow : AllByRecursion (λ (s : SignalForm). ¬ IsTooWide bytes s.scaling) (all_signals (messages_of statements))
+  pub scaled : AllByRecursion (HasSomeScale bytes) (all_signals (messages_of statements))
   pub treeless : IsFirstTreeless bytes (noted_in bytes (notes_of statements)) (messages_of statements) id name why
 
 -- the bytes have this fault, and none of an earlier kind

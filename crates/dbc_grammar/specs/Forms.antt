@@ -1,6 +1,6 @@
--- The statements of the DBC format as forms over tokens, one for each row of its table: what stands at the front of
--- the tokens, and the tokens after it. A quoted text is a token of these bytes; words that are kept are tokens.
-use Rattle.std.specs.Prelude.{ℕ, ◌-◌, ◌==◌, ◌||◌, ◌&&◌, Bool, true, false, List, [], ◌∷◌, length, take, slice_index, Option, Some, None, codes, nat_le, nat_lt, if◌then◌else◌}
+-- The statements of the DBC format as forms over tokens, as the readers find them: what stands at the front of the tokens,
+-- and the tokens after it. A law says that they find exactly what `Statements` says.
+use Rattle.std.specs.Prelude.{ℕ, ◌-◌, ◌==◌, ◌||◌, ◌&&◌, Bool, true, false, List, length, take, slice_index, Option, Some, None, codes, nat_le, nat_lt, if◌then◌else◌}
 use Rattle.std.specs.Option.{option_map}
 use Rattle.std.specs.Str.{bytes_eq}
 use Rattle.byte_forms.specs.declared.numerals.Radix.TheVariants.{Decimal}
@@ -24,6 +24,8 @@ use Rattle.dbc_grammar.specs.declared.statement.Scaling.{Scaling}
 use Rattle.dbc_grammar.specs.declared.statement.SignalForm.{SignalForm}
 use Rattle.dbc_grammar.specs.declared.statement.Heading.{Heading}
 use Rattle.dbc_grammar.specs.declared.statement.MessageForm.{MessageForm}
+use Rattle.dbc_grammar.specs.Limits.{small_limit, last_short_id, first_long_id, last_range_value, last_type}
+use Rattle.dbc_grammar.specs.Statements.{no_mark, place_of_first}
 use Rattle.dbc_grammar.specs.Words.{is_free_word, is_among, unkept_words}
 use Rattle.dbc_grammar.specs.Passed.{is_symbol, is_before_semicolon, is_before_statement, pass}
 
@@ -39,16 +41,8 @@ optional tokens None = tokens
 optional tokens (Some rest) = rest
 
 -- a whole number of 32 bits
-abbrev pub small_limit : ℕ
-small_limit = 4294967295
-
 abbrev pub small_at : List ℕ → List Token → Option (ℕ × List Token)
 small_at text tokens = whole_at text small_limit tokens
-
--- where the first token stands
-abbrev pub place_of_first : List Token → ℕ
-place_of_first [] = 0
-place_of_first (token ∷ rest) = token.at
 
 -- VERSION Str
 unfoldable pub version_at : List ℕ → List Token → Option (List Token)
@@ -137,9 +131,6 @@ mark_of text =
         option_map (group_mark true) (number_up_to Decimal small_limit digits)
 
 -- the mark of a signal, which may be missing
-abbrev pub no_mark : Mark
-no_mark = record { multiplexor = false; group = None }
-
 abbrev pub mark_by : List ℕ → List Token → Option (Token × List Token) → Option (Mark × List Token)
 mark_by text tokens None = Some (no_mark, tokens)
 mark_by text tokens (Some word) = do
@@ -243,7 +234,7 @@ signal_at text tokens = do
 
 -- an identifier of 11 bits, or of 29 bits with bit 31 set
 abbrev pub is_identifier : ℕ → Bool
-is_identifier id = nat_le id 2047 || nat_le 2147483648 id
+is_identifier id = nat_le id last_short_id || nat_le first_long_id id
 
 -- BO_ id Word : length Word
 unfoldable pub heading_at : List ℕ → List Token → Option (Heading × List Token)
@@ -282,7 +273,7 @@ signal_texts_at text tokens = do
 -- :? type ;
 unfoldable pub type_at : List ℕ → List Token → Option (ℕ × List Token)
 type_at text tokens = do
-  kind ← whole_at text 2 (optional tokens (literal_at text (codes ":") tokens))
+  kind ← whole_at text last_type (optional tokens (literal_at text (codes ":") tokens))
   rest ← literal_at text (codes ";") kind.1
   Some (kind.0, rest)
 
@@ -296,9 +287,9 @@ value_type_at text tokens = do
 -- low - high
 unfoldable pub range_at : List ℕ → List Token → Option (Range × List Token)
 range_at text tokens = do
-  low ← whole_at text 18446744073709551615 tokens
+  low ← whole_at text last_range_value tokens
   rest ← literal_at text (codes "-") low.1
-  high ← whole_at text 18446744073709551615 rest
+  high ← whole_at text last_range_value rest
   Some (record { low = low.0; high = high.0 }, high.1)
 
 unfoldable pub more_range_at : List ℕ → List Token → Option (Range × List Token)

@@ -1,9 +1,7 @@
 -- The messages that statements make, but for their trees.
-use Rattle.std.specs.Prelude.{◌≡◌, ℕ, ℤ, ◌==◌, Bool, false, max, List, [], ◌∷◌, map, Option, Some, None, nat_lt, if◌then◌else◌}
-use Rattle.std.specs.List.{flat_map, enumerate_from}
+use Rattle.std.specs.Prelude.{◌≡◌, ℕ, ℤ, ◌==◌, Bool, false, List, [], ◌∷◌, map, Option, Some, None, nat_lt, if◌then◌else◌}
+use Rattle.std.specs.List.{flat_map, enumerate_from, AllZip}
 use Rattle.exact_scale.specs.declared.scaling.Scale.{Scale}
-use Rattle.exact_scale.specs.Spelling.{Denotes}
-use Rattle.exact_scale.specs.Limits.{IsScale, numerator_over}
 use Rattle.multiplex_tree.specs.declared.mark.Link.{Link}
 use Rattle.multiplex_tree.specs.declared.mark.Mark.{Mark}
 use Rattle.bench_model.specs.declared.database.Label.{Label}
@@ -13,6 +11,7 @@ use Rattle.sig_text.specs.Content.{content_of}
 use Rattle.sig_text.specs.declared.token.Token.{Token}
 use Rattle.token_forms.specs.Pieces.{token_text}
 use Rattle.token_forms.specs.Numbers.{signed_text, whole_value}
+use Rattle.token_forms.specs.Scaling.{IsScaling, HasNoScaling}
 use Rattle.dbc_grammar.specs.declared.statement.Statement.{Statement}
 use Rattle.dbc_grammar.specs.declared.statement.Statement.TheVariants as statement
 use Rattle.dbc_grammar.specs.declared.statement.Says.{Says}
@@ -40,13 +39,6 @@ messages_of statements = flat_map messages_in statements
 
 abbrev pub notes_of : List Statement → List Note
 notes_of statements = flat_map notes_in statements
-
--- each of one list has the relation to the one at its place in the other, and there are as many
-abbrev pub AreEach : {A B : Type 0} → (A → B → Type 0) → List A → List B → Type 0
-AreEach R [] [] = Unit {0}
-AreEach R [] (b ∷ bs) = ⊥
-AreEach R (a ∷ xs) [] = ⊥
-AreEach R (a ∷ xs) (b ∷ bs) = R a b × AreEach R xs bs
 
 -- the label that a value text makes; one whose number is not a whole number that raw values may have makes none
 abbrev pub label_by : List ℕ → Bool → Token → Option ℤ → List Label
@@ -95,22 +87,13 @@ message_links text noted named m = flat_map (signal_links text noted named m) (e
 abbrev pub message_marks : MessageForm → List Mark
 message_marks m = map (λ (s : SignalForm). s.mark) m.signals
 
--- the scale of a factor and an offset, over the greater of their powers of ten and within the limits
-pub record IsScaleOf (text : List ℕ) (scaling : Scaling) (scale : Scale) : Type 0 where
-  pub factor : ℤ
-  pub factor_places : ℕ
-  pub offset : ℤ
-  pub offset_places : ℕ
-  pub factor_denoted : Denotes (signed_text text scaling.factor) factor factor_places
-  pub offset_denoted : Denotes (signed_text text scaling.offset) offset offset_places
-  pub places : scale.k ≡ max factor_places offset_places
-  pub factor_is : scale.factor ≡ numerator_over scale.k factor factor_places
-  pub offset_is : scale.offset ≡ numerator_over scale.k offset offset_places
-  pub within : IsScale scale
+-- the scale of a signal's factor and offset
+abbrev pub IsScaleOf : List ℕ → Scaling → Scale → Type 0
+IsScaleOf text scaling scale = IsScaling (signed_text text scaling.factor) (signed_text text scaling.offset) scale
 
 -- no scale within the limits is theirs
 abbrev pub IsTooWide : List ℕ → Scaling → Type 0
-IsTooWide text scaling = (scale : Scale) → ¬ IsScaleOf text scaling scale
+IsTooWide text scaling = HasNoScaling (signed_text text scaling.factor) (signed_text text scaling.offset)
 
 -- the signal that a statement and the notes on it make
 pub record IsSignalOf (text : List ℕ) (utf8 : Bool) (form : SignalForm) (notes : List Note) (s : Signal) : Type 0 where
@@ -131,4 +114,4 @@ IsSignalAt text utf8 noted named m x s =
 
 abbrev pub AreSignalsOf : List ℕ → Bool → Noted → Bool → MessageForm → List Signal → Type 0
 AreSignalsOf text utf8 noted named m signals =
-    AreEach (IsSignalAt text utf8 noted named m) (enumerate_from 0 m.signals) signals
+    AllZip (IsSignalAt text utf8 noted named m) (enumerate_from 0 m.signals) signals

@@ -1,11 +1,13 @@
 -- the statements of the format, what they make, and the faults
+pub mod Statements
 pub mod Words
 pub mod Passed
-pub mod Forms
+pub mod Limits
 pub mod Naming
 pub mod Gather
 pub mod Contract
--- how values of the code are seen
+-- statements as functions, which the readers equal, and how values of the code are seen
+pub mod Forms
 pub mod Views
 pub mod Sorts
 pub mod Kept

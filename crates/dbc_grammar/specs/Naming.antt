@@ -5,6 +5,7 @@ use Rattle.std.specs.Str.{bytes_eq}
 use Rattle.bench_model.specs.declared.database.Key.{Key}
 use Rattle.bench_model.specs.Meaning.{same_bool}
 use Rattle.token_forms.specs.Pieces.{token_text}
+use Rattle.dbc_grammar.specs.Limits.{last_short_id, first_long_id, long_ids}
 use Rattle.dbc_grammar.specs.declared.statement.Note.{Note}
 use Rattle.dbc_grammar.specs.declared.statement.SignalForm.{SignalForm}
 use Rattle.dbc_grammar.specs.declared.statement.MessageForm.{MessageForm}
@@ -15,16 +16,16 @@ independent = 3221225472
 
 abbrev pub key_of : ℕ → Key
 key_of id =
-    if nat_lt id 2147483648
+    if nat_lt id first_long_id
     then record { extended = false; id = id }
-    else record { extended = true; id = id % 536870912 }
+    else record { extended = true; id = id % long_ids }
 
 abbrev pub same_key : Key → Key → Bool
 same_key a b = same_bool a.extended b.extended && (a.id == b.id)
 
 -- whether an identifier names a message: 3221225472 and those from 2,048 to 2^31 - 1 name none
 abbrev pub is_named_id : ℕ → Bool
-is_named_id id = not (id == independent) && (nat_le id 2047 || nat_le 2147483648 id)
+is_named_id id = not (id == independent) && (nat_le id last_short_id || nat_le first_long_id id)
 
 -- whether a note names the signal of this name in the message with this key
 abbrev pub names_signal : List ℕ → Key → List ℕ → Note → Bool

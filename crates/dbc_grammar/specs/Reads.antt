@@ -1,6 +1,6 @@
 -- What the steps of reading answer.
 use Rattle.std.specs.Prelude.{◌≡◌, ℕ, Bool, false, List, Some, slice_get}
-use Rattle.std.specs.List.{enumerate_from}
+use Rattle.std.specs.List.{enumerate_from, AllZip}
 use Rattle.multiplex_tree.specs.declared.fault.MuxWhy.{MuxWhy}
 use Rattle.multiplex_tree.specs.declared.fault.MuxFault.TheVariants as mux
 use Rattle.multiplex_tree.specs.declared.mark.Mark.{Mark}
@@ -17,7 +17,6 @@ use Rattle.dbc_grammar.specs.declared.row.Row.{Row}
 use Rattle.dbc_grammar.specs.declared.statement.SignalForm.{SignalForm}
 use Rattle.dbc_grammar.specs.declared.statement.MessageForm.{MessageForm}
 use Rattle.dbc_grammar.specs.Naming.{Noted, message_key}
-use Rattle.dbc_grammar.specs.Gather.{AreEach}
 use Rattle.dbc_grammar.specs.Contract.{fault_id, IsMessageAt, IsFirstTreeless}
 
 -- the first lexical fault; memory may run out
@@ -66,7 +65,7 @@ IsTreelessFault text noted messages (faults.Check fault) = ⊥
 
 -- the messages of all statements
 abbrev pub AreMessagesOf : List ℕ → Bool → Noted → List MessageForm → List Message → Type 0
-AreMessagesOf text utf8 noted forms messages = AreEach (IsMessageAt text utf8 noted forms) (enumerate_from 0 forms) messages
+AreMessagesOf text utf8 noted forms messages = AllZip (IsMessageAt text utf8 noted forms) (enumerate_from 0 forms) messages
 
 -- the first broken rule; memory may run out
 abbrev pub IsCheckOrMemory : Database → DbcFault → Type 0

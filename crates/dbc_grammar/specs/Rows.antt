@@ -1,27 +1,18 @@
 -- What the makers of signals answer, and what a message's signals and links are together.
 use Rattle.std.specs.Prelude.{◌≡◌, ℕ, Bool, List}
-use Rattle.std.specs.List.{enumerate_from}
-use Rattle.token_forms.specs.declared.fault.NumberFault.{NumberFault}
-use Rattle.token_forms.specs.declared.fault.NumberFault.TheVariants as number
+use Rattle.std.specs.List.{enumerate_from, AllZip}
 use Rattle.dbc_grammar.specs.declared.fault.DbcFault.{DbcFault}
 use Rattle.dbc_grammar.specs.declared.fault.DbcFault.TheVariants as faults
 use Rattle.dbc_grammar.specs.declared.row.Row.{Row}
-use Rattle.dbc_grammar.specs.declared.statement.Scaling.{Scaling}
 use Rattle.dbc_grammar.specs.declared.statement.SignalForm.{SignalForm}
 use Rattle.dbc_grammar.specs.declared.statement.MessageForm.{MessageForm}
 use Rattle.dbc_grammar.specs.Naming.{Noted, is_first_message}
-use Rattle.dbc_grammar.specs.Gather.{AreEach, IsTooWide, AreSignalsOf, message_marks, message_links}
-use Rattle.dbc_grammar.specs.Contract.{IsFirstWide}
-
--- no scale is theirs; memory may run out
-abbrev pub HasNoScale : List ℕ → Scaling → NumberFault → Type 0
-HasNoScale text scaling number.Form = IsTooWide text scaling
-HasNoScale text scaling number.Wide = IsTooWide text scaling
-HasNoScale text scaling number.Memory = Unit {0}
+use Rattle.dbc_grammar.specs.Gather.{AreSignalsOf, message_marks, message_links}
+use Rattle.dbc_grammar.specs.Contract.{IsTooWideAt, IsFirstWide}
 
 -- the signal is too wide, and the fault names its place; memory may run out
 abbrev pub IsWideAt : List ℕ → SignalForm → DbcFault → Type 0
-IsWideAt text form (faults.Scale at) = (at ≡ form.at) × IsTooWide text form.scaling
+IsWideAt text form (faults.Scale at) = IsTooWideAt text form at
 IsWideAt text form faults.Memory = Unit {0}
 IsWideAt text form (faults.Lex fault) = ⊥
 IsWideAt text form (faults.Statement at) = ⊥
@@ -48,4 +39,4 @@ abbrev pub IsRowAt : List ℕ → Bool → Noted → List MessageForm → ℕ ×
 IsRowAt text utf8 noted messages x row = IsRowOf text utf8 noted (is_first_message messages x.0 x.1) x.1 row
 
 abbrev pub AreRowsOf : List ℕ → Bool → Noted → List MessageForm → List Row → Type 0
-AreRowsOf text utf8 noted messages rows = AreEach (IsRowAt text utf8 noted messages) (enumerate_from 0 messages) rows
+AreRowsOf text utf8 noted messages rows = AllZip (IsRowAt text utf8 noted messages) (enumerate_from 0 messages) rows

@@ -1,23 +1,24 @@
 //! Laws about the definitions that the contracts cite. They have no code of their own, but rest on laws of the crates
 //! below.
 
-ghost use Rattle.std.specs.Prelude.{◌≡◌, ◌⊎◌, ℕ, List};
+ghost use Rattle.std.specs.Prelude.{◌≡◌, ◌↔◌, ◌⊎◌, ℕ, List, Some};
 ghost use Rattle.decisions.specs.Decisions.{Decides};
 ghost use Rattle.bench_model.specs.declared.database.Database.{Database};
 ghost use Rattle.dbc_grammar.specs.declared.fault.DbcFault.{DbcFault};
 ghost use Rattle.sig_text.specs.declared.token.Token.{Token};
 ghost use Rattle.token_forms.specs.Names.{HasNames};
-ghost use Rattle.token_forms.specs.Runs.{IsLongestRun, run_of};
+ghost use Rattle.token_forms.specs.Runs.{run_of};
+ghost use Rattle.token_forms.specs.Stands.{Each};
 ghost use Rattle.dbc_grammar.specs.declared.statement.Statement.{Statement as AnyStatement};
 ghost use Rattle.dbc_grammar.specs.Forms.{statement_at};
+ghost use Rattle.dbc_grammar.specs.Statements.{Stands};
 ghost use Rattle.dbc_grammar.specs.Contract.{IsDatabaseOf, HasFault};
 
-use crate::statement::Statement;
+use crate::statement::{SignalForm, Statement, ValueText};
 use bench_model::{valid_keeps_rules, verdict_is_unique};
-use exact_scale::{a_decimal_text_denotes_one, decimal_is_unique};
-use multiplex_tree::{resolution_is_unique, trees_of_marks};
-use sig_text::reading_is_unique;
-use token_forms::one_longest_run;
+use multiplex_tree::{Range, resolution_is_unique, trees_of_marks};
+use sig_text::{Token, reading_is_unique};
+use token_forms::{forms_find_what_stands, one_longest_run, one_scale_or_none};
 
 /// Bytes have one database at most or one fault at most, and never both.
 pub fn database_is_unique()
@@ -26,7 +27,8 @@ pub fn database_is_unique()
     ensures never_both { (bytes : List ℕ) (d : Database) (fault : DbcFault) →
         IsDatabaseOf bytes d → ¬ HasFault bytes fault }
 {
-    decimal_is_unique();
+    one_scale_or_none();
+    statements_are_the_longest_run();
     resolution_is_unique();
     reading_is_unique();
     verdict_is_unique();
@@ -37,8 +39,8 @@ pub fn database_exists()
     ensures { (bytes : List ℕ) →
         ((d : Database) × IsDatabaseOf bytes d) ⊎ ((fault : DbcFault) × HasFault bytes fault) }
 {
-    decimal_is_unique();
-    a_decimal_text_denotes_one();
+    one_scale_or_none();
+    statements_are_the_longest_run();
     resolution_is_unique();
     trees_of_marks();
     reading_is_unique();
@@ -53,14 +55,14 @@ pub fn one_database_or_one_fault()
     database_is_unique();
 }
 
-/// The statements of a text are the longest run of whole statements at the front of its tokens, and the only one.
+/// The statements that are read of tokens stand at their front one behind another, as many as there are, and no others do.
 pub fn statements_are_the_longest_run()
     ensures longest { (text : List ℕ) (tokens : List Token) →
-        IsLongestRun (statement_at text) tokens (run_of (statement_at text) tokens).0 (run_of (statement_at text) tokens).1 }
-    ensures only { (text : List ℕ) (tokens : List Token) (statements : List AnyStatement) (rest : List Token) →
-        IsLongestRun (statement_at text) tokens statements rest →
-        (statements ≡ (run_of (statement_at text) tokens).0) × (rest ≡ (run_of (statement_at text) tokens).1) }
+        Each (Stands text) (run_of (statement_at text) tokens).0 tokens (run_of (statement_at text) tokens).1 }
+    ensures only { (text : List ℕ) (tokens : List Token) (xs ys : List AnyStatement) (rest left : List Token) →
+        Each (Stands text) xs tokens rest → Each (Stands text) ys tokens left → (xs ≡ ys) × (rest ≡ left) }
 {
+    forms_are_statements();
     one_longest_run::<Statement>();
 }
 
@@ -68,5 +70,18 @@ pub fn statements_are_the_longest_run()
 pub fn names_are_words()
     ensures { (bytes : List ℕ) (d : Database) → IsDatabaseOf bytes d → HasNames d }
 {
+    forms_are_statements();
     valid_keeps_rules();
+}
+
+/// The statement that a form finds at the front of the tokens is the one that stands there, and what stands there is found.
+pub fn forms_are_statements()
+    ensures { (text : List ℕ) (tokens : List Token) (statement : AnyStatement) (rest : List Token) →
+        (statement_at text tokens ≡ Some (statement, rest)) ↔ Stands text statement tokens rest }
+{
+    forms_find_what_stands();
+    one_longest_run::<SignalForm>();
+    one_longest_run::<ValueText>();
+    one_longest_run::<Range>();
+    one_longest_run::<Token>();
 }

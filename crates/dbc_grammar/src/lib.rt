@@ -29,8 +29,8 @@ mod words;
 
 pub use fault::DbcFault;
 pub use laws::{
-    database_exists, database_is_unique, names_are_words, one_database_or_one_fault,
-    statements_are_the_longest_run,
+    database_exists, database_is_unique, forms_are_statements, names_are_words,
+    one_database_or_one_fault, statements_are_the_longest_run,
 };
 pub use read::read_dbc;
 pub use statement::{

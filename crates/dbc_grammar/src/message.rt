@@ -5,6 +5,7 @@ ghost use Rattle.token_forms.specs.Runs.{run_of};
 ghost use Rattle.token_forms.specs.Views.{found_view};
 ghost use Rattle.dbc_grammar.specs.Forms.{signal_at, is_identifier, heading_at, message_at};
 
+use crate::keys::{FIRST_LONG_ID, LAST_SHORT_ID};
 use crate::signal::signal_at;
 use crate::statement::{Heading, MessageForm, SignalForm};
 use crate::values::small_at;
@@ -17,7 +18,7 @@ use token_forms::{literal_at, word_at};
 fn is_identifier(id: u32) -> bool
     ensures { result ≡ is_identifier id }
 {
-    id <= 2047 || 0x8000_0000 <= id
+    id <= LAST_SHORT_ID || FIRST_LONG_ID <= id
 }
 
 /// `BO_ id Word : length Word`

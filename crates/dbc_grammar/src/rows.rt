@@ -4,11 +4,11 @@ ghost use Rattle.std.specs.Prelude.{◌≡◌, IfOk, IfErr};
 ghost use Rattle.bench_model.specs.declared.database.Key.{Key};
 ghost use Rattle.dbc_grammar.specs.declared.statement.MessageForm.{MessageForm};
 ghost use Rattle.dbc_grammar.specs.Naming.{key_of, noted_in, notes_on};
-ghost use Rattle.dbc_grammar.specs.Gather.{IsScaleOf, IsSignalOf};
+ghost use Rattle.dbc_grammar.specs.Gather.{IsSignalOf};
 ghost use Rattle.dbc_grammar.specs.Contract.{all_signals};
 ghost use Rattle.dbc_grammar.specs.Noted.{seen_notes, notes_seen};
 ghost use Rattle.dbc_grammar.specs.Places.{signal_place};
-ghost use Rattle.dbc_grammar.specs.Rows.{HasNoScale, IsWideAt, IsWideFault, IsRowOf, AreRowsOf};
+ghost use Rattle.dbc_grammar.specs.Rows.{IsWideAt, IsWideFault, IsRowOf, AreRowsOf};
 
 use crate::DbcFault;
 use crate::keys::key_of;
@@ -16,33 +16,12 @@ use crate::labels::{is_float, labels_of, push_links};
 use crate::notes::NoteIndex;
 use crate::places::{MessagePlaces, SignalPlaces};
 use crate::row::Row;
-use crate::statement::{MessageForm, Note, Scaling, SignalForm};
-use bench_model::{Coding, Key, Scale, Signal, Text};
-use exact_scale::decimal_is_unique;
+use crate::statement::{MessageForm, Note, SignalForm};
+use bench_model::{Coding, Key, Signal, Text};
 use multiplex_tree::List;
 use std::alloc::{AllocError, Global};
 use std::collections::VecDeque;
-use token_forms::{NumberFault, decimal_of, string_content, token_text};
-
-/// The scale of a factor and an offset.
-fn scale_of(alloc: Global, bytes: &[u8], scaling: Scaling) -> Result<Scale, NumberFault>
-    ensures ok { IfOk result (IsScaleOf bytes.now scaling) }
-    ensures wide { IfErr result (HasNoScale bytes.now scaling) }
-{
-    decimal_is_unique();
-    let factor = match decimal_of(alloc, bytes, scaling.factor) {
-        Ok(factor) => factor,
-        Err(fault) => return Err(fault),
-    };
-    let offset = match decimal_of(alloc, bytes, scaling.offset) {
-        Ok(offset) => offset,
-        Err(fault) => return Err(fault),
-    };
-    match Scale::new(factor, offset) {
-        Ok(scale) => Ok(scale),
-        Err(_wide) => Err(NumberFault::Wide),
-    }
-}
+use token_forms::{NumberFault, scale_of, string_content, token_text};
 
 /// The signal of a statement and the notes on it.
 fn signal_of(
@@ -55,9 +34,8 @@ fn signal_of(
     ensures ok { IfOk result (IsSignalOf bytes.now utf8 form.now (seen_notes notes.now)) }
     ensures fault { IfErr result (IsWideAt bytes.now form.now) }
 {
-    let scale = match scale_of(alloc, bytes, form.scaling) {
+    let scale = match scale_of(alloc, bytes, form.scaling.factor, form.scaling.offset) {
         Ok(scale) => scale,
-        Err(NumberFault::Form) => return Err(DbcFault::Scale { at: form.at }),
         Err(NumberFault::Wide) => return Err(DbcFault::Scale { at: form.at }),
         Err(NumberFault::Memory) => return Err(DbcFault::Memory),
     };

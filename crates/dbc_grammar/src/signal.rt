@@ -3,7 +3,8 @@
 ghost use Rattle.std.specs.Prelude.{◌≡◌};
 ghost use Rattle.token_forms.specs.Runs.{run_of};
 ghost use Rattle.token_forms.specs.Views.{rest_view, found_view};
-ghost use Rattle.dbc_grammar.specs.Forms.{without_last_M, mark_of, mark_at, order_at, signedness_at, place_at, scaling_at, limits_at, node_at, receiver_at, receivers_at, signal_head_at, signal_at, place_of_first};
+ghost use Rattle.dbc_grammar.specs.Forms.{without_last_M, mark_of, mark_at, order_at, signedness_at, place_at, scaling_at, limits_at, node_at, receiver_at, receivers_at, signal_head_at, signal_at};
+ghost use Rattle.dbc_grammar.specs.Statements.{place_of_first};
 ghost use Rattle.dbc_grammar.specs.Views.{bytes_view, triple_view};
 
 use crate::statement::{Place, Scaling, SignalForm};

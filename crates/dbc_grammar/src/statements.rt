@@ -1,16 +1,15 @@
 //! The longest run of whole statements.
 
 ghost use Rattle.std.specs.Prelude.{◌≡◌, IfOk, IfErr, OnOk};
-ghost use Rattle.token_forms.specs.Runs.{run_of};
 ghost use Rattle.token_forms.specs.Views.{found_view};
 ghost use Rattle.dbc_grammar.specs.Forms.{note_at, statement_at};
-ghost use Rattle.dbc_grammar.specs.Kept.{IsKeptWith, IsKeptOf, StopsAt, IsWholeOrStops};
+ghost use Rattle.dbc_grammar.specs.Kept.{IsKeptWith, IsKeptBefore, IsKeptOf, StopsAt};
 
 use crate::DbcFault;
 use crate::keys::INDEPENDENT;
+use crate::laws::statements_are_the_longest_run;
 use crate::message::message_at;
 use crate::multiplexing::multiplexing_at;
-use crate::signal::place_of_first;
 use crate::statement::{MessageForm, Note, Statement};
 use crate::unkept::unkept_at;
 use crate::values::{signal_texts_at, value_type_at};
@@ -81,12 +80,15 @@ impl Kept {
     }
 }
 
-/// What is kept of all statements, where the tokens are a list of whole statements; else the place of the first token
-/// after the longest run of them.
-pub fn read_statements(alloc: Global, bytes: &[u8], tokens: &[Token]) -> Result<Kept, DbcFault>
-    ensures ok { IfOk result (λ kept. IsKeptOf bytes.now tokens.now kept) }
-    ensures fault { IfErr result (StopsAt bytes.now tokens.now) }
+/// What is kept of the longest run of whole statements, and the tokens after it.
+fn kept_of<'a>(
+    alloc: Global,
+    bytes: &[u8],
+    tokens: &'a [Token],
+) -> Result<(Kept, &'a [Token]), AllocError>
+    ensures { IfOk result (λ found. IsKeptBefore bytes.now tokens.now found.0 found.1.now) }
 {
+    statements_are_the_longest_run();
     let mut kept = Kept {
         messages: Vec::new(alloc),
         notes: Vec::new(alloc),
@@ -98,21 +100,21 @@ pub fn read_statements(alloc: Global, bytes: &[u8], tokens: &[Token]) -> Result<
                 kept.add(statement)?;
                 rest = after;
             }
-            None => return whole(kept, rest),
+            None => return Ok((kept, rest)),
         }
     }
-    whole(kept, rest)
+    Ok((kept, rest))
 }
 
-/// What is kept, where no token is left.
-fn whole(kept: Kept, rest: &[Token]) -> Result<Kept, DbcFault>
-    ensures { IsWholeOrStops kept rest.now result }
+/// What is kept of all statements, where the tokens are a list of whole statements; else the place of the first token
+/// after the longest run of them.
+pub fn read_statements(alloc: Global, bytes: &[u8], tokens: &[Token]) -> Result<Kept, DbcFault>
+    ensures ok { IfOk result (λ kept. IsKeptOf bytes.now tokens.now kept) }
+    ensures fault { IfErr result (StopsAt bytes.now tokens.now) }
 {
-    if rest.is_empty() {
-        Ok(kept)
-    } else {
-        Err(DbcFault::Statement {
-            at: place_of_first(rest),
-        })
+    let (kept, rest) = kept_of(alloc, bytes, tokens)?;
+    match rest {
+        [] => Ok(kept),
+        [token, ..] => Err(DbcFault::Statement { at: token.at }),
     }
 }

@@ -1,5 +1,4 @@
 -- questions that have one answer
 pub mod Decisions
--- lists of things that are each asked, and states that things change in turn
+-- lists of things that are each asked
 pub mod ListDecisions
-pub mod Walks

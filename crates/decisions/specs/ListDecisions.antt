@@ -14,6 +14,10 @@ FirstFails {B = B} Makes Fails (x ∷ xs) (suc n) why = ((y : B) × Makes x y) �
 abbrev pub FirstFailsAt : {A B C : Type 0} → (A → B → Type 0) → (A → C → Type 0) → List A → ℕ × C → Type 0
 FirstFailsAt Makes Fails xs at = FirstFails Makes Fails xs at.0 at.1
 
+-- the first of the list that fails does so for this reason, whatever its place
+abbrev pub FirstFailsFor : {A B C : Type 0} → (A → B → Type 0) → (A → C → Type 0) → List A → C → Type 0
+FirstFailsFor Makes Fails xs why = (at : ℕ) × FirstFails Makes Fails xs at why
+
 cons_path : {A : Type 0} (x y : A) (xs ys : List A) → x ≡ y → xs ≡ ys → x ∷ xs ≡ y ∷ ys
 cons_path x y xs ys e es = ap (λ z. z ∷ xs) e ∙ ap (λ zs. y ∷ zs) es
 
@@ -63,4 +67,16 @@ module _ {A B C : Type 0} (Makes : A → B → Type 0) (Fails : A → C → Type
     one = one_list;
     only = λ xs p q h k. let r = only_first xs p.0 q.0 p.1 q.1 h k in pair_path p q r.0 r.1;
     apart = λ xs ys at h k. apart_list xs ys at.0 at.1 h k;
+  }
+
+  pub decides_first : Decides (AllZip Makes) (FirstFailsFor Makes Fails)
+  decides_first = record {
+    some = λ xs.
+        elim (some_list xs) [
+          | inl ys ↦ inl ys
+          | inr at ↦ inr (at.0.1, (at.0.0, at.1))
+        ];
+    one = one_list;
+    only = λ xs c e h k. (only_first xs h.0 k.0 c e h.1 k.1).1;
+    apart = λ xs ys c h k. apart_list xs ys k.0 c h k.1;
   }

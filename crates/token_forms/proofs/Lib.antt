@@ -1,2 +1,4 @@
 pub mod DecimalTextLaws
 pub mod RunLaws
+pub mod ScaleLaws
+pub mod StandsLaws

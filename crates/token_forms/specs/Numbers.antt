@@ -4,7 +4,7 @@ use Rattle.std.specs.Prelude.{ℕ, ◌||◌, ◌&&◌, ℤ, pos, neg_ℤ, Bool, 
 use Rattle.std.specs.Option.{option_map}
 use Rattle.std.specs.Str.{bytes_eq}
 use Rattle.exact_scale.specs.Spelling.{Denotes}
-use Rattle.exact_scale.specs.Limits.{IsTooWide}
+use Rattle.exact_scale.specs.Limits.{IsTooWide, least_raw_size, greatest_raw}
 use Rattle.byte_forms.specs.declared.numerals.Radix.TheVariants.{Decimal, Hexadecimal}
 use Rattle.byte_forms.specs.Numerals.{number_up_to, is_numeral}
 use Rattle.byte_forms.specs.Pieces.{◌>>=◌}
@@ -76,9 +76,9 @@ abbrev pub is_minus : List ℕ → Option Token → Bool
 is_minus text None = false
 is_minus text (Some sign) = bytes_eq (token_text text sign) (codes "-")
 
--- the whole number between `-2^63` and `2^64 - 1` that digits with an optional sign spell
+-- the whole number among the raw values of signals that digits with an optional sign spell
 unfoldable pub whole_value : List ℕ → SignedNumber → Option ℤ
 whole_value text n =
     if is_minus text n.sign
-    then option_map (λ size. neg_ℤ (pos size)) (number_up_to Decimal 9223372036854775808 (token_text text n.number))
-    else option_map pos (number_up_to Decimal 18446744073709551615 (token_text text n.number))
+    then option_map (λ size. neg_ℤ (pos size)) (number_up_to Decimal least_raw_size (token_text text n.number))
+    else option_map pos (number_up_to Decimal greatest_raw (token_text text n.number))

@@ -1,12 +1,16 @@
--- What reading a decimal answers where it gives none.
+-- What reading a decimal or a scale answers where it gives none.
 use Rattle.std.specs.Prelude.{ℕ, List}
-use Rattle.exact_scale.specs.Spelling.{IsDecimalText}
 use Rattle.token_forms.specs.Numbers.{HasNoDecimal}
+use Rattle.token_forms.specs.Scaling.{HasNoScaling}
 use Rattle.token_forms.specs.declared.fault.NumberFault.{NumberFault}
-use Rattle.token_forms.specs.declared.fault.NumberFault.TheVariants.{Form, Wide, Memory}
+use Rattle.token_forms.specs.declared.fault.NumberFault.TheVariants.{Wide, Memory}
 
--- the text is no decimal, or it is one past the limits; memory may run out
+-- the text denotes no decimal within the limits; memory may run out
 abbrev pub IsNoDecimal : List ℕ → NumberFault → Type 0
-IsNoDecimal text Form = ¬ IsDecimalText text
-IsNoDecimal text Wide = IsDecimalText text × HasNoDecimal text
+IsNoDecimal text Wide = HasNoDecimal text
 IsNoDecimal text Memory = Unit {0}
+
+-- the factor and the offset are too wide; memory may run out
+abbrev pub IsNoScale : List ℕ → List ℕ → NumberFault → Type 0
+IsNoScale factor offset Wide = HasNoScaling factor offset
+IsNoScale factor offset Memory = Unit {0}

@@ -1,17 +1,15 @@
-//! Why a signed number gives no decimal.
+//! Why a signed number gives no decimal, or two of them no scale.
 ghost use Rattle.std.specs.Prelude.{◌≡◌};
 ghost use Rattle.token_forms.specs.declared.fault.NumberFault.TheVariants.{Memory};
 
 use std::alloc::{AllocError, AllocFailed};
 use thiserror::Error;
 
-/// Why a signed number gives no decimal.
+/// Why a signed number gives no decimal, or a factor and an offset no scale. A signed number among the tokens of a text
+/// is always a decimal text, so that no other cause comes of one.
 #[derive(Clone, Copy, Debug, PartialEq, Eq, Error)]
 pub enum NumberFault {
-    /// The text is no decimal number, which a signed number among the tokens of a text always is.
-    #[error("not a decimal number")]
-    Form,
-    /// The number needs more than thirty places, or a numerator of `2^62` or more.
+    /// No decimal or no scale within the limits is theirs: thirty places, and numerators below `2^62`.
     #[error("a decimal number past the limits")]
     Wide,
     #[error("out of memory")]

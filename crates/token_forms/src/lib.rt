@@ -15,14 +15,18 @@ mod fault;
 mod laws;
 mod numbers;
 mod pieces;
+mod scaling;
 
 pub use content::string_content;
 pub use fault::NumberFault;
-pub use laws::{a_signed_number_is_a_decimal_text, one_longest_run};
+pub use laws::{
+    a_signed_number_is_a_decimal_text, forms_find_what_stands, one_longest_run, one_scale_or_none,
+};
 pub use numbers::{
     SignedNumber, decimal_of, digits_at, number_up_to_at, signed_at, whole_at, whole_value,
 };
 pub use pieces::{literal_at, number_at, string_at, token_text, word_at};
+pub use scaling::scale_of;
 
 #[cfg(test)]
 mod tests;

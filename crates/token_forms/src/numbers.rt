@@ -10,7 +10,7 @@ ghost use Rattle.token_forms.specs.Outcomes.{IsNoDecimal};
 use crate::fault::NumberFault;
 use crate::pieces::{number_at, token_text};
 use byte_forms::{Class, Radix, is_all, number_up_to};
-use exact_scale::{Decimal, DecimalFault, decimal_is_unique};
+use exact_scale::{Decimal, DecimalFault, GREATEST_RAW, LEAST_RAW_SIZE, decimal_is_unique};
 use sig_text::Token;
 use std::alloc::{AllocError, Global};
 
@@ -137,12 +137,12 @@ fn decimal_in(text: &[u8]) -> Result<Decimal, NumberFault>
     decimal_is_unique();
     match Decimal::read(text) {
         Ok(decimal) => Ok(decimal),
-        Err(DecimalFault::Form) => Err(NumberFault::Form),
+        Err(DecimalFault::Form) => Err(NumberFault::Wide),
         Err(DecimalFault::Wide) => Err(NumberFault::Wide),
     }
 }
 
-/// The decimal that a signed number denotes. For one that stands among the tokens of a text the fault is never `Form`.
+/// The decimal that a signed number denotes.
 pub fn decimal_of(alloc: Global, bytes: &[u8], number: SignedNumber) -> Result<Decimal, NumberFault>
     ensures value { IfOk result (λ decimal. Denotes (signed_text bytes.now number) decimal.num decimal.k) }
     ensures narrow { IfOk result (λ decimal. (decimal.k ≤ most_places) × IsNarrow decimal.num) }
@@ -168,7 +168,7 @@ fn is_minus(bytes: &[u8], sign: Option<Token>) -> bool
     }
 }
 
-/// The whole number between `-2^63` and `2^64 - 1` that digits with an optional sign spell.
+/// The whole number among the raw values of signals that digits with an optional sign spell.
 #[tactic(auto, unfolding(crate::specs::Numbers::whole_value))]
 pub fn whole_value(bytes: &[u8], number: SignedNumber) -> Option<i128>
     ensures value { result ≡ whole_value bytes.now number }
@@ -176,10 +176,10 @@ pub fn whole_value(bytes: &[u8], number: SignedNumber) -> Option<i128>
 {
     let digits = token_text(bytes, number.number);
     if is_minus(bytes, number.sign) {
-        let size = number_up_to(Radix::Decimal, 1 << 63, digits)?;
+        let size = number_up_to(Radix::Decimal, LEAST_RAW_SIZE, digits)?;
         Some(-i128::from(size))
     } else {
-        let size = number_up_to(Radix::Decimal, u64::MAX, digits)?;
+        let size = number_up_to(Radix::Decimal, GREATEST_RAW, digits)?;
         Some(i128::from(size))
     }
 }

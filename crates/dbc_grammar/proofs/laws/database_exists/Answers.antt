@@ -3,8 +3,9 @@ use Rattle.dbc_grammar.proofs.laws.database_exists.Goals as goal
 
 pub returns : goal.returns
 returns c = database_or_fault (record {
-  one_decimal = c.decimal_is_unique.ensures;
-  decimal = c.a_decimal_text_denotes_one.ensures.limits;
+  one_scale = c.one_scale_or_none.ensures.one;
+  some_scale = c.one_scale_or_none.ensures.some;
+  run = c.statements_are_the_longest_run.ensures.longest;
   tree = c.resolution_is_unique.ensures.some;
   over = c.trees_of_marks.ensures.over;
   reading = c.reading_is_unique.ensures.some;

@@ -1,8 +1,7 @@
 use Rattle.std.proofs.Common.{List, subst}
-use Rattle.std.specs.List.{enumerate_from}
+use Rattle.std.specs.List.{enumerate_from, AllZip}
 use Rattle.std.proofs.lemmas.List.{take_all}
 use Rattle.dbc_grammar.specs.declared.statement.MessageForm.{MessageForm}
-use Rattle.dbc_grammar.specs.Gather.{AreEach}
 use Rattle.dbc_grammar.specs.Contract.{IsMessageAt}
 use Rattle.dbc_grammar.proofs.TreeLaws.{one_more_message, first_treeless}
 use Rattle.dbc_grammar.proofs.read.messages_of.Goals as goal
@@ -21,5 +20,5 @@ loop-form-preserved c = λ utf8 noted are.
 
 pub returns-clause-ok : goal.returns-clause-ok
 returns-clause-ok c = λ utf8 noted are.
-    subst (λ (forms : List MessageForm). AreEach (IsMessageAt c.args.bytes.now utf8 noted c.args.forms.now) (enumerate_from 0 forms) c.loop-form.messages.items)
+    subst (λ (forms : List MessageForm). AllZip (IsMessageAt c.args.bytes.now utf8 noted c.args.forms.now) (enumerate_from 0 forms) c.loop-form.messages.items)
     (take_all c.loop-form.form-index c.args.forms.now c.loop-form-test.false) (c.loop-form.invariant utf8 noted are).messages

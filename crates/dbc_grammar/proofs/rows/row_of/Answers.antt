@@ -7,7 +7,7 @@ use Rattle.dbc_grammar.specs.Naming.{places_in, place_of_name}
 use Rattle.dbc_grammar.specs.Noted.{seen_notes, notes_seen}
 use Rattle.dbc_grammar.specs.Places.{signal_place}
 use Rattle.dbc_grammar.proofs.RowLaws.{same_places, signals_go_on_in, links_go_on_in, marks_go_on_in, links_within}
-use Rattle.dbc_grammar.proofs.WideLaws.{made_narrow, signal_is_first_in}
+use Rattle.dbc_grammar.proofs.WideLaws.{made_scaled, signal_is_first_in}
 use Rattle.dbc_grammar.proofs.rows.row_of.Goals as goal
 
 pub loop-place-preserved : goal.loop-place-preserved
@@ -36,7 +36,7 @@ pub returns-in-Err-clause-fault : goal.returns-in-Err-clause-fault
 returns-in-Err-clause-fault c =
     let m = c.args.message.now in
     signal_is_first_in c.args.bytes.now m.signals c.items-forms.result.now c.loop-place.place _ c.in-Err.fault c.items-forms.ensures c.loop-place-test.true
-    (made_narrow c.args.bytes.now c.args.utf8 (notes_seen c.args.index.now.notes) c.args.named m 0 (take c.loop-place.place m.signals)
+    (made_scaled c.args.bytes.now c.args.utf8 (notes_seen c.args.index.now.notes) c.args.named m 0 (take c.loop-place.place m.signals)
     c.loop-place.signals.items c.loop-place.invariant.signals) c.in-Err.ensures.fault
 
 pub invariant_of-result : goal.invariant_of-result

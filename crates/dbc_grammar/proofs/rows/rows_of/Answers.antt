@@ -3,7 +3,7 @@ use Rattle.dbc_grammar.specs.Naming.{noted_in, is_place, is_first_message}
 use Rattle.dbc_grammar.specs.Noted.{notes_seen}
 use Rattle.dbc_grammar.specs.Places.{message_place}
 use Rattle.dbc_grammar.proofs.RowLaws.{same_noted, row_with, rows_go_on}
-use Rattle.dbc_grammar.proofs.WideLaws.{rows_narrow, message_is_first_in}
+use Rattle.dbc_grammar.proofs.WideLaws.{rows_scaled, message_is_first_in}
 use Rattle.dbc_grammar.proofs.rows.rows_of.Goals as goal
 
 pub loop-place-preserved : goal.loop-place-preserved
@@ -27,5 +27,5 @@ pub returns-in-Err-clause-fault : goal.returns-in-Err-clause-fault
 returns-in-Err-clause-fault c =
     message_is_first_in c.args.bytes.now c.args.messages.now c.loop-place.place c.index-messages-place.result c.in-Err.fault
     c.loop-place-test.true c.index-messages-place.is
-    (rows_narrow c.args.bytes.now c.args.utf8 (noted_in c.args.bytes.now c.args.notes.now) c.args.messages.now 0
+    (rows_scaled c.args.bytes.now c.args.utf8 (noted_in c.args.bytes.now c.args.notes.now) c.args.messages.now 0
     (take c.loop-place.place c.args.messages.now) c.loop-place.rows.items c.loop-place.invariant) c.in-Err.ensures.fault

@@ -3,7 +3,7 @@ use Rattle.token_forms.specs.Runs.{run_within, run_of}
 use Rattle.dbc_grammar.specs.Forms.{statement_at}
 use Rattle.dbc_grammar.specs.Gather.{messages_in, notes_in}
 use Rattle.dbc_grammar.proofs.RunLaws.{IsKeptAhead}
-use Rattle.dbc_grammar.proofs.statements.read_statements.Given as goal
+use Rattle.dbc_grammar.proofs.statements.kept_of.Given as goal
 
 -- what is kept so far and of the statements ahead is what is kept of all, and the same tokens are left
 abbrev pub invariant-loop-turn : goal.invariant-loop-turn
