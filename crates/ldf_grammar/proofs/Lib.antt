@@ -1,9 +1,15 @@
 pub mod UntilLaws
+pub mod PartLaws
+pub mod BraceLaws
 pub mod GivesLaws
 pub mod LookupLaws
 pub mod StepLaws
 pub mod ScaleLaws
 pub mod RunLaws
+pub mod LineSoundLaws
+pub mod StatementSoundLaws
+pub mod StatementCompleteLaws
+pub mod RowLaws
 pub mod MadeLaws
 pub mod ReadLaws
 pub mod OneLaws

@@ -1,18 +1,16 @@
 -- The database of statements is made as `check` asks: its trees have no parents, its scales keep their limits.
-use Rattle.std.proofs.Common.{◌≡◌, sym, ap, subst, arith, ℕ, Bool, true, false, List, [], ◌∷◌, length, map}
-use Rattle.std.specs.Prelude.{Option, Some, None, All, max, replicate, if◌then◌else◌}
-use Rattle.std.specs.List.{flat_map}
+use Rattle.std.proofs.Common.{sym, subst, ℕ, Bool, true, false, List, [], ◌∷◌, length, map}
+use Rattle.std.specs.Prelude.{Option, Some, None, All, replicate, if◌then◌else◌}
+use Rattle.std.specs.List.{flat_map, AllZip}
 use Rattle.std.specs.Str.{bytes_eq}
 use Rattle.std.proofs.lemmas.List.Elements.{All-append, All-nil, All-cons}
-use Rattle.exact_scale.specs.declared.scaling.Scale.{Scale}
-use Rattle.exact_scale.specs.Limits.{IsScale}
 use Rattle.multiplex_tree.specs.Trees.{IsTreeOver}
 use Rattle.sig_text.specs.declared.token.Token.{Token}
 use Rattle.token_forms.specs.Pieces.{token_text}
 use Rattle.bench_model.specs.declared.database.Entry.{Entry}
 use Rattle.bench_model.specs.declared.database.Signal.{Signal}
 use Rattle.bench_model.specs.Limits.{IsEntry, IsCoding, IsMade}
-use Rattle.ldf_grammar.specs.Scaling.{IsScaling, IsEntryOf, AreEach}
+use Rattle.ldf_grammar.specs.Scaling.{IsEntryOf}
 use Rattle.ldf_grammar.specs.Gather.{Definitions, definitions_of, all_encodings, first_of, IsCoded, AreCoded, entries_or_none, entries_by, signal_of, signal_by, signal_in, signals_of, message_of, messages_in, messages_of}
 use Rattle.ldf_grammar.specs.declared.statement.EncodingEntry.{EncodingEntry}
 use Rattle.ldf_grammar.specs.declared.statement.EncodingEntry.TheVariants.{Logical, Physical, Plain}
@@ -32,19 +30,12 @@ all_map : {S X : Type 0} (P : X → Type 0) (f : S → X) (ss : List S) → ((s 
 all_map P f [] each = All-nil P
 all_map P f (s ∷ ss) each = All-cons P (f s) (map f ss) (each s) (all_map P f ss each)
 
-scale_within : (f o : List ℕ) (s : Scale) → IsScaling f o s → IsScale s
-scale_within f o s scaling =
-    let few = scaling.factor_is.few_places in
-    let too = scaling.offset_is.few_places in
-    let k : s.k ≡ max scaling.factor_places scaling.offset_places = ap (λ (x : Scale). x.k) scaling.scale_is in
-    record { factor = scaling.narrow.0; offset = scaling.narrow.1; places = omega arith }
-
 entry_within : (text : List ℕ) (entry : EncodingEntry) (e : Entry) → IsEntryOf text entry e → IsEntry e
 entry_within text (Logical raw words) e is = subst IsEntry (sym is) tt
-entry_within text (Physical at low high scale offset unit) e (s, scaling, is) = subst IsEntry (sym is) (scale_within _ _ s scaling)
+entry_within text (Physical at low high scale offset unit) e (s, scaling, is) = subst IsEntry (sym is) scaling.within
 entry_within text Plain e is = subst IsEntry (sym is) tt
 
-entries_within : (text : List ℕ) (entries : List EncodingEntry) (es : List Entry) → AreEach (IsEntryOf text) entries es → All IsEntry es
+entries_within : (text : List ℕ) (entries : List EncodingEntry) (es : List Entry) → AllZip (IsEntryOf text) entries es → All IsEntry es
 entries_within text [] [] each = All-nil IsEntry
 entries_within text [] (e ∷ es) each = absurd each
 entries_within text (x ∷ xs) [] each = absurd each
@@ -55,7 +46,7 @@ abbrev IsGood : Option (List Entry) → Type 0
 IsGood None = Unit {0}
 IsGood (Some es) = All IsEntry es
 
-first_good : (text name : List ℕ) (encodings : List Encoding) (coded : List (List ℕ × List Entry)) → AreEach (IsCoded text) encodings coded → IsGood (first_of name coded)
+first_good : (text name : List ℕ) (encodings : List Encoding) (coded : List (List ℕ × List Entry)) → AllZip (IsCoded text) encodings coded → IsGood (first_of name coded)
 unfolding first_of
 first_good text name [] [] each = tt
 first_good text name [] (p ∷ ps) each = absurd each

@@ -17,8 +17,8 @@ use Rattle.ldf_grammar.specs.Sizes as sections
 use Rattle.ldf_grammar.specs.Sizes.{Section, section_of}
 use Rattle.ldf_grammar.specs.Forms.{taken, taking}
 use Rattle.ldf_grammar.specs.StatementForms as marks
-use Rattle.ldf_grammar.specs.StatementForms.{Mark, mark_of, line_by, after_line, section_by, after_section, header_line, other_section, signal_section, frame_section, encoding_section, representation_section, passed_section, passed_line, section_by_kind, opened_section, statement_behind, statement, whole_statement}
-use Rattle.ldf_grammar.specs.Run.{after_first, behind_name, HasStatements}
+use Rattle.ldf_grammar.specs.StatementForms.{Mark, mark_of, line_by, after_line, section_by, after_section, header_line, other_section, signal_section, frame_section, encoding_section, representation_section, passed_section, passed_line, section_by_kind, opened_section, statement_behind, statement, whole_statement, behind_name, after_first}
+use Rattle.ldf_grammar.specs.Run.{HasStatements}
 use Rattle.ldf_grammar.specs.Gather.{Definitions, definitions_of, first_of, signal_by, signal_in, message_of, messages_in, messages_of}
 use Rattle.ldf_grammar.specs.Described.{IsDatabaseOf}
 use Rattle.token_forms.specs.Names.{HasNames}
@@ -28,6 +28,7 @@ use Rattle.ldf_grammar.specs.declared.statement.Frame.{Frame}
 use Rattle.ldf_grammar.specs.declared.statement.Statement.{Statement}
 use Rattle.ldf_grammar.specs.declared.statement.Statement.TheVariants.{Signals, Frames, Encodings, Representations, PassedOver}
 use Rattle.ldf_grammar.proofs.WordLaws.{AreOfText, LeavesOf, literal_leaves, passed_told, IsTold, Tells, Any, IsWordToken, AllKeep, tells_followed, tells_say, tells_word, tells_expect, tells_either, tells_until}
+use Rattle.ldf_grammar.proofs.RowLaws.{Rows, standing_run}
 use Rattle.ldf_grammar.proofs.LineWordLaws.{NamesSignal, NamesFrame, t_line, t_frame, t_encoding, t_representation}
 
 -- what is passed over leaves tokens of the text
@@ -129,10 +130,13 @@ first_leaves : (text : List ℕ) (tokens : List Token) → AreOfText text tokens
 unfolding after_first
 first_leaves text tokens of = behind_leaves text (literal_at text (codes "LIN_description_file") tokens) (literal_leaves text (codes "LIN_description_file") tokens of)
 
-statement_names : (text : List ℕ) (statements : List Statement) → HasStatements text statements → AllKeep (NamesStatement text) statements
-statement_names text statements has =
+statement_names : (rows : Rows) (text : List ℕ) (statements : List Statement) → HasStatements text statements → AllKeep (NamesStatement text) statements
+statement_names rows text statements has =
+    let rest = has.stand.0 in
+    let opened = (rows.first text has.tokens rest).1 has.stand.1 in
     let P : Option (List Token) → Type 0 = LeavesOf text in
-    run_names text has.rest statements [] has.run (subst P has.opened (first_leaves text has.tokens (of_text text true 0 has.tokens (length text) has.lexed)))
+    run_names text rest statements [] (standing_run rows text rest statements [] has.stand.2).run
+    (subst P opened (first_leaves text has.tokens (of_text text true 0 has.tokens (length text) has.lexed)))
 
 -- and so are those of the messages
 word_spelled : (text : List ℕ) (token : Token) → IsWordToken text token → IsWord (token_text text token)
@@ -172,15 +176,15 @@ messages_words : (text : List ℕ) (d : Definitions) (ss : List Statement) → A
 messages_words text d [] h = All-nil HasWords
 messages_words text d (s ∷ ss) h = All-append HasWords (messages_in text d s) (messages_of text d ss) (statement_words text d s h.0) (messages_words text d ss h.1)
 
-all_words : (text : List ℕ) (d : Database) → IsDatabaseOf text d → All HasWords d.messages
-all_words text d is =
+all_words : (rows : Rows) (text : List ℕ) (d : Database) → IsDatabaseOf text d → All HasWords d.messages
+all_words rows text d is =
     let P : Database → Type 0 = λ x. All HasWords x.messages in
     subst P (sym is.made.gathered)
-    (messages_words text (definitions_of text is.made.statements is.made.coded) is.made.statements (statement_names text is.made.statements is.made.read.whole))
+    (messages_words text (definitions_of text is.made.statements is.made.coded) is.made.statements (statement_names rows text is.made.statements is.made.read.whole))
 
-pub names_of_text : (text : List ℕ) (d : Database) → IsDatabaseOf text d → KeepsRules d → HasNames d
-names_of_text text d is keeps = λ k e h.
-    let words = all_words text d is k e h in
+pub names_of_text : (rows : Rows) (text : List ℕ) (d : Database) → IsDatabaseOf text d → KeepsRules d → HasNames d
+names_of_text rows text d is keeps = λ k e h.
+    let words = all_words rows text d is k e h in
     let rules = keeps.messages k e h in
     record {
       message = record { word = words.message; size = rules.name };

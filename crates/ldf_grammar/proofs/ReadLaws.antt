@@ -1,13 +1,14 @@
 -- The steps of reading put together: what each answers is true of the whole text.
-use Rattle.std.proofs.Common.{◌≡◌, ◌∙◌, sym, ap, refl, subst, ℕ, ◌⊎◌, inl, inr, true, List, Ok, Err, Result}
+use Rattle.std.proofs.Common.{◌≡◌, ◌∙◌, sym, ap, refl, subst, ℕ, ◌⊎◌, inl, inr, true, List, [], Ok, Err, Result}
 use Rattle.std.specs.Prelude.{IsErr, IsErrAnd, IfErr, All}
 use Rattle.sig_text.specs.declared.token.Token.{Token}
 use Rattle.sig_text.specs.Tokens.{IsTokens}
 use Rattle.bench_model.specs.declared.database.Message.{Message}
 use Rattle.bench_model.specs.declared.database.Database.{Database}
 use Rattle.bench_model.specs.Limits.{IsMade}
+use Rattle.ldf_grammar.specs.Run.{AllRows}
 use Rattle.ldf_grammar.specs.Described.{Makes, HasFault}
-use Rattle.ldf_grammar.specs.Answer.{AreStatements, Gathers, MeetsUnknown, FailsToGather, IsLexOrMemory, IsBreakOrMemory, IsCheckOrMemory}
+use Rattle.ldf_grammar.specs.Answer.{Gathers, MeetsUnknown, FailsToGather, IsLexOrMemory, IsBreakOrMemory, IsCheckOrMemory}
 use Rattle.ldf_grammar.specs.declared.statement.Statement.{Statement}
 use Rattle.ldf_grammar.specs.declared.fault.LdfFault.{LdfFault}
 use Rattle.ldf_grammar.specs.declared.fault.LdfFault.TheVariants as faults
@@ -30,13 +31,13 @@ unknown_passes {A} r e text statements at h is meets =
     subst P (sym (same_fault r e h ∙ ap Err is)) meets
 
 -- the text makes the database of its statements
-pub makes : (text : List ℕ) (tokens : List Token) (statements : List Statement) (database : Database) → IsTokens text true tokens → AreStatements text tokens statements
+pub makes : (text : List ℕ) (tokens : List Token) (statements : List Statement) (database : Database) → IsTokens text true tokens → AllRows text statements tokens []
     → Gathers text statements database → Makes text database
 makes text tokens statements database lexed are gathers = record {
   statements = statements;
   coded = gathers.coded;
   read = record {
-    whole = record { tokens = tokens; lexed = lexed; rest = are.rest; opened = are.opened; run = are.run };
+    whole = record { tokens = tokens; lexed = lexed; stand = are };
     encodings = gathers.encodings;
   };
   known = gathers.known;
@@ -62,17 +63,17 @@ break_fault text tokens (faults.UnknownName at) lexed h = absurd h
 break_fault text tokens (faults.Check f) lexed h = absurd h
 break_fault text tokens faults.Memory lexed h = inl refl
 
-gather_fault : (text : List ℕ) (tokens : List Token) (statements : List Statement) (e : LdfFault) → IsTokens text true tokens → AreStatements text tokens statements
+gather_fault : (text : List ℕ) (tokens : List Token) (statements : List Statement) (e : LdfFault) → IsTokens text true tokens → AllRows text statements tokens []
     → FailsToGather text statements e → IsAnswered text e
 gather_fault text tokens statements (faults.Scale at) lexed are h = inr (record {
   statements = statements;
-  whole = record { tokens = tokens; lexed = lexed; rest = are.rest; opened = are.opened; run = are.run };
+  whole = record { tokens = tokens; lexed = lexed; stand = are };
   first = h;
 })
 gather_fault text tokens statements (faults.UnknownName at) lexed are h = inr (record {
   statements = statements;
   coded = h.coded;
-  read = record { whole = record { tokens = tokens; lexed = lexed; rest = are.rest; opened = are.opened; run = are.run }; encodings = h.encodings };
+  read = record { whole = record { tokens = tokens; lexed = lexed; stand = are }; encodings = h.encodings };
   first = h.first;
 })
 gather_fault text tokens statements (faults.Lex f) lexed are h = absurd h
@@ -99,7 +100,7 @@ pub break_passes : {A : Type 0} (r : Result A LdfFault) (e : LdfFault) (text : L
 break_passes r e text tokens h lexed f = answered r e text h (break_fault text tokens e lexed f)
 
 pub gather_passes : {A : Type 0} (r : Result A LdfFault) (e : LdfFault) (text : List ℕ) (tokens : List Token) (statements : List Statement) → IsErr r × IsErrAnd r (λ s. s ≡ e)
-    → IsTokens text true tokens → AreStatements text tokens statements → FailsToGather text statements e → IfErr r (IsAnswered text)
+    → IsTokens text true tokens → AllRows text statements tokens [] → FailsToGather text statements e → IfErr r (IsAnswered text)
 gather_passes r e text tokens statements h lexed are f = answered r e text h (gather_fault text tokens statements e lexed are f)
 
 check_if : {A : Type 0} (r : Result A LdfFault) (text : List ℕ) (database : Database) → Makes text database → IfErr r (IsCheckOrMemory database) → IfErr r (IsAnswered text)

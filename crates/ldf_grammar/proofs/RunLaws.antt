@@ -1,10 +1,14 @@
--- A run of statements, one more at its end; and runs are unique.
-use Rattle.std.proofs.Common.{◌≡◌, ◌∙◌, sym, ap, refl, subst, arith, ℕ, ◌<◌, ◌≤◌, true, false, List, [], ◌∷◌, ◌++◌, length}
+-- A statement takes a token at least; and a run of statements with one more at its end is a run.
+use Rattle.std.proofs.Common.{◌≡◌, ◌∙◌, sym, ap, refl, subst, arith, ℕ, ◌<◌, ◌≤◌, ◌⊎◌, inl, inr, true, false, List, [], ◌∷◌, ◌++◌, length}
 use Rattle.std.specs.Prelude.{Option, Some, None, nat_lt}
 use Rattle.std.proofs.lemmas.Bool.Decides.{nat_tests}
 use Rattle.sig_text.specs.declared.token.Token.{Token}
-use Rattle.token_forms.specs.Runs.{Form, AreRun}
+use Rattle.token_forms.specs.Runs.{Form, TakesTokens, AreRun}
 use Rattle.ldf_grammar.specs.Forms.{taken, taking}
+use Rattle.ldf_grammar.specs.StatementForms.{statement, whole_statement}
+
+lt_cases : (m n : ℕ) → ((nat_lt m n ≡ true) × (m < n)) ⊎ ((nat_lt m n ≡ false) × (n ≤ m))
+lt_cases m n = grind (arith, nat_tests)
 
 lt_is_true : (m n : ℕ) → m < n → nat_lt m n ≡ true
 lt_is_true m n h = grind (arith, nat_tests)
@@ -24,6 +28,23 @@ pub taking_none : {A : Type 0} (p : Form A) (tokens : List Token) → p tokens �
 unfolding taking
 taking_none p tokens e = ap (taken tokens) e
 
+-- what is taken leaves fewer tokens
+taken_short : {A : Type 0} (tokens : List Token) (o : Option (A × List Token)) (found : A × List Token) → taken tokens o ≡ Some found
+    → length found.1 < length tokens
+taken_short tokens None found e = absurd cc
+taken_short {A} tokens (Some x) found e = elim (lt_cases (length x.1) (length tokens)) [
+  | inl short ↦
+      let f : Some x ≡ Some found = sym (rw short.0 refl) ∙ e in
+      let g : x ≡ found = cc in
+      let P : A × List Token → Type 0 = λ z. length z.1 < length tokens in
+      subst P g short.1
+  | inr long ↦ let f : ◌≡◌ {A = Option (A × List Token)} None (Some found) = sym (rw long.0 refl) ∙ e in absurd cc
+]
+
+pub statement_takes : (text : List ℕ) → TakesTokens (whole_statement text)
+unfolding taking
+statement_takes text tokens found e = taken_short tokens (statement text tokens) found e
+
 run_more : {A : Type 0} (form : Form A) (tokens : List Token) (xs : List A) (middle rest : List Token) (x : A) → AreRun form tokens xs middle → form middle ≡ Some (x, rest)
     → AreRun form tokens (xs ++ x ∷ []) rest
 run_more form tokens [] middle rest x run e = (rest, ap form run ∙ e, refl)
@@ -34,20 +55,3 @@ pub run_pushed : {A : Type 0} (form : Form A) (tokens : List Token) (xs zs : Lis
 run_pushed {A} form tokens xs zs middle rest x run e is =
     let P : List A → Type 0 = λ ys. AreRun form tokens ys rest in
     subst P (sym is) (run_more form tokens xs middle rest x run e)
-
--- two runs that nothing of the form follows are the same
-same_found : {A : Type 0} (o : Option (A × List Token)) (x y : A) (m n : List Token) → o ≡ Some (x, m) → o ≡ Some (y, n) → (x ≡ y) × (m ≡ n)
-same_found {A} o x y m n e f =
-    let g : ◌≡◌ {A = A × List Token} (x, m) (y, n) = cc in
-    (ap (λ (p : A × List Token). p.0) g, ap (λ (p : A × List Token). p.1) g)
-
-pub one_run : {A : Type 0} (form : Form A) (tokens : List Token) (xs ys : List A) (m n : List Token) → AreRun form tokens xs m → AreRun form tokens ys n → form m ≡ None → form n ≡ None
-    → (xs ≡ ys) × (m ≡ n)
-one_run form tokens [] [] m n p q e f = (refl, sym p ∙ q)
-one_run form tokens [] (y ∷ ys) m n p q e f = let g : form tokens ≡ None = ap form p ∙ e in let h = q.1 in absurd cc
-one_run form tokens (x ∷ xs) [] m n p q e f = let g : form tokens ≡ None = ap form q ∙ f in let h = p.1 in absurd cc
-one_run {A} form tokens (x ∷ xs) (y ∷ ys) m n p q e f =
-    let same = same_found (form tokens) x y p.0 q.0 p.1 q.1 in
-    let P : List Token → Type 0 = λ ts. AreRun form ts ys n in
-    let later = one_run form p.0 xs ys m n p.2 (subst P (sym same.1) q.2) e f in
-    (rw (same.0, later.0) refl, later.1)

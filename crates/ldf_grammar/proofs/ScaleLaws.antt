@@ -1,74 +1,16 @@
--- A scaling is too wide where a decimal of it is, or one of its numerators over the common power of ten.
-use Rattle.std.proofs.Common.{◌≡◌, ◌∙◌, sym, ap, subst, arith, ℕ, ◌≤◌, ◌<◌, List, [], ◌∷◌, ◌++◌, length, take, get_or, map, zero, suc, ◌+◌, inl, inr, Ok, Err, Result, append_assoc}
-use Rattle.std.specs.Prelude.{◌⊎◌, ℤ, max, IsErr, IsErrAnd, IfErr, unsigned_abs}
-use Rattle.std.specs.List.{flat_map}
+-- The entries of a list of encodings one by one, and the first whose scaling is too wide.
+use Rattle.std.proofs.Common.{◌≡◌, ◌∙◌, sym, ap, subst, arith, ℕ, ◌<◌, List, [], ◌∷◌, ◌++◌, length, take, get_or, map, zero, suc, ◌+◌, Ok, Err, Result, append_assoc}
+use Rattle.std.specs.Prelude.{IsErr, IsErrAnd, IfErr}
+use Rattle.std.specs.List.{flat_map, AllZip}
 use Rattle.std.proofs.lemmas.List.{take_more}
 use Rattle.std.proofs.lemmas.List.{map-append}
-use Rattle.exact_scale.specs.declared.scaling.Scale.{Scale}
-use Rattle.exact_scale.specs.Spelling.{Denotes}
-use Rattle.exact_scale.specs.Limits.{numerator_limit, IsNarrow, numerator_over}
-use Rattle.token_forms.specs.Numbers.{HasNoDecimal}
-use Rattle.token_forms.specs.Outcomes.{IsNoDecimal}
-use Rattle.token_forms.specs.declared.fault.NumberFault.{NumberFault}
-use Rattle.token_forms.specs.declared.fault.NumberFault.TheVariants as numbers
+use Rattle.decisions.specs.ListDecisions.{FirstFailsFor}
 use Rattle.ldf_grammar.specs.declared.fault.LdfFault.{LdfFault}
 use Rattle.ldf_grammar.specs.declared.fault.LdfFault.TheVariants as faults
-use Rattle.ldf_grammar.specs.Scaling.{IsDecimalOf, HasNoScaling, AreEach, IsFirstWithout}
-use Rattle.ldf_grammar.specs.Answer.{IsWideNumber, IsWideOrMemory}
+use Rattle.ldf_grammar.specs.Answer.{IsWideOrMemory}
 use Rattle.ldf_grammar.proofs.StepLaws.{each_append, flat_step, first_before, first_after}
 
-not_decimal : (text : List ℕ) (n : ℤ) (k : ℕ) → HasNoDecimal text → ¬ IsDecimalOf text n k
-not_decimal text n k none d = elim (none n k d.denotes) [
-  | inl many ↦ let few = d.few_places in absurd (omega arith)
-  | inr wide ↦ let narrow = d.narrow in absurd (omega arith)
-]
-
-pub no_factor : (f o : List ℕ) → HasNoDecimal f → HasNoScaling f o
-no_factor f o none s scaling = not_decimal f scaling.factor_num scaling.factor_places none scaling.factor_is
-
-pub no_offset : (f o : List ℕ) → HasNoDecimal o → HasNoScaling f o
-no_offset f o none s scaling = not_decimal o scaling.offset_num scaling.offset_places none scaling.offset_is
-
--- the numerators of a scaling are those of any decimals that the texts denote
-abbrev pub IsWideOver : ℤ → ℕ → ℤ → ℕ → Type 0
-IsWideOver fn fk on ok =
-    (numerator_limit ≤ unsigned_abs (numerator_over (max fk ok) fn fk)) ⊎ (numerator_limit ≤ unsigned_abs (numerator_over (max fk ok) on ok))
-
-narrow_over : (s : Scale) (fn : ℤ) (fk : ℕ) (on : ℤ) (ok : ℕ)
-    → s ≡ record { factor = numerator_over (max fk ok) fn fk; offset = numerator_over (max fk ok) on ok; k = max fk ok }
-    → IsNarrow s.factor × IsNarrow s.offset → ¬ IsWideOver fn fk on ok
-narrow_over s fn fk on ok is narrow wide =
-    let P : Scale → Type 0 = λ x. IsNarrow x.factor × IsNarrow x.offset in
-    let at = subst P is narrow in
-    elim wide [
-      | inl w ↦ let n = at.0 in absurd (omega arith)
-      | inr w ↦ let n = at.1 in absurd (omega arith)
-    ]
-
-pub no_scale : ((text : List ℕ) (n m : ℤ) (k j : ℕ) → Denotes text n k → Denotes text m j → (n ≡ m) × (k ≡ j)) → (f o : List ℕ) (fn : ℤ) (fk : ℕ) (on : ℤ) (ok : ℕ)
-    → Denotes f fn fk → Denotes o on ok → IsWideOver fn fk on ok → HasNoScaling f o
-no_scale unique f o fn fk on ok df do' wide s scaling =
-    let ef = unique f fn scaling.factor_num fk scaling.factor_places df scaling.factor_is.denotes in
-    let eo = unique o on scaling.offset_num ok scaling.offset_places do' scaling.offset_is.denotes in
-    narrow_over s scaling.factor_num scaling.factor_places scaling.offset_num scaling.offset_places scaling.scale_is scaling.narrow
-    (rw (ef.0, ef.1, eo.0, eo.1) at wide)
-
--- faults that are passed on
-same_number : {A : Type 0} (r : Result A NumberFault) (e : NumberFault) → IsErr r × IsErrAnd r (λ s. s ≡ e) → r ≡ Err e
-same_number (Ok x) e h = let f = h.0 in absurd cc
-same_number (Err s) e h = ap Err h.1
-
-number_on : (text : List ℕ) (e : NumberFault) (P : Type 0) → IsNoDecimal text e → (HasNoDecimal text → P) → IsWideNumber P e
-number_on text numbers.Form P none to = to (λ num k d. absurd (none (d.spelling, d.spelled)))
-number_on text numbers.Wide P none to = to none.1
-number_on text numbers.Memory P none to = tt
-
-pub number_passes : {A : Type 0} (r : Result A NumberFault) (e : NumberFault) (text : List ℕ) (P : Type 0) → IsErr r × IsErrAnd r (λ s. s ≡ e) → IsNoDecimal text e
-    → (HasNoDecimal text → P) → IfErr r (IsWideNumber P)
-number_passes {A} r e text P h none to =
-    let Q : Result A NumberFault → Type 0 = λ x. IfErr x (IsWideNumber P) in
-    subst Q (sym (same_number r e h)) (number_on text e P none to)
-
+-- a fault that is passed on
 same_fault : {A : Type 0} (r : Result A LdfFault) (e : LdfFault) → IsErr r × IsErrAnd r (λ s. s ≡ e) → r ≡ Err e
 same_fault (Ok x) e h = let f = h.0 in absurd cc
 same_fault (Err s) e h = ap Err h.1
@@ -88,22 +30,24 @@ wide_passes {A} r e P Q h p to =
     subst S (sym (same_fault r e h)) (wide_on e P Q p to)
 
 -- the first that fails, at this place of a list
-first_there : {A B : Type 0} (R : A → B → Type 0) (Fails : A → ℕ → Type 0) (xs : List A) (i : ℕ) (ys : List B) (d : A) (at : ℕ) → AreEach R (take i xs) ys → i < length xs
-    → Fails (get_or xs i d) at → IsFirstWithout R Fails xs at
+first_there : {A B : Type 0} (R : A → B → Type 0) (Fails : A → ℕ → Type 0) (xs : List A) (i : ℕ) (ys : List B) (d : A) (at : ℕ) → AllZip R (take i xs) ys → i < length xs
+    → Fails (get_or xs i d) at → FirstFailsFor R Fails xs at
 first_there R Fails [] i ys d at each h fails = absurd (omega arith)
-first_there R Fails (x ∷ xs) zero ys d at each h fails = inl fails
+first_there R Fails (x ∷ xs) zero ys d at each h fails = (zero, fails)
 first_there R Fails (x ∷ xs) (suc i) [] d at each h fails = absurd each
-first_there R Fails (x ∷ xs) (suc i) (y ∷ ys) d at each h fails = inr ((y, each.0), first_there R Fails xs i ys d at each.1 (omega arith) fails)
+first_there R Fails (x ∷ xs) (suc i) (y ∷ ys) d at each h fails =
+    let later = first_there R Fails xs i ys d at each.1 (omega arith) fails in
+    (suc later.0, ((y, each.0), later.1))
 
-pub first_here : {A B : Type 0} (R : A → B → Type 0) (Fails : A → ℕ → Type 0) (xs : List A) (i : ℕ) (ys : List B) (x : A) (at : ℕ) → AreEach R (take i xs) ys → i < length xs
-    → x ≡ get_or xs i x → Fails x at → IsFirstWithout R Fails xs at
+pub first_here : {A B : Type 0} (R : A → B → Type 0) (Fails : A → ℕ → Type 0) (xs : List A) (i : ℕ) (ys : List B) (x : A) (at : ℕ) → AllZip R (take i xs) ys → i < length xs
+    → x ≡ get_or xs i x → Fails x at → FirstFailsFor R Fails xs at
 first_here {A} R Fails xs i ys x at each h is fails =
     let P : A → Type 0 = λ z. Fails z at in
     first_there R Fails xs i ys x at each h (subst P is fails)
 
 -- one counterpart more
-pub each_push : {A B : Type 0} (R : A → B → Type 0) (xs : List A) (i : ℕ) (ys zs : List B) (x : A) (y : B) → AreEach R (take i xs) ys → i < length xs → x ≡ get_or xs i x → R x y
-    → zs ≡ ys ++ y ∷ [] → AreEach R (take (i + 1) xs) zs
+pub each_push : {A B : Type 0} (R : A → B → Type 0) (xs : List A) (i : ℕ) (ys zs : List B) (x : A) (y : B) → AllZip R (take i xs) ys → i < length xs → x ≡ get_or xs i x → R x y
+    → zs ≡ ys ++ y ∷ [] → AllZip R (take (i + 1) xs) zs
 each_push {A} {B} R xs i ys zs x y each h is r e =
     let P : A → Type 0 = λ z. R z y in
     let both = each_append R (take i xs) ys (get_or xs i x ∷ []) (y ∷ []) each (subst P is r, tt) in
@@ -111,8 +55,8 @@ each_push {A} {B} R xs i ys zs x y each h is r e =
 
 -- the same where each counterpart is seen through a function, behind those that were there
 pub added_more : {A B C : Type 0} (R : A → B → Type 0) (f : C → B) (xs : List A) (i : ℕ) (old now later : List C) (x : A) (y : C)
-    → ((added : List C) × (now ≡ old ++ added) × AreEach R (take i xs) (map f added)) → i < length xs → x ≡ get_or xs i x → R x (f y) → later ≡ now ++ y ∷ []
-    → (added : List C) × (later ≡ old ++ added) × AreEach R (take (i + 1) xs) (map f added)
+    → ((added : List C) × (now ≡ old ++ added) × AllZip R (take i xs) (map f added)) → i < length xs → x ≡ get_or xs i x → R x (f y) → later ≡ now ++ y ∷ []
+    → (added : List C) × (later ≡ old ++ added) × AllZip R (take (i + 1) xs) (map f added)
 added_more R f xs i old now later x y (added, was, each) h is r e = (
   added ++ y ∷ [],
   e ∙ ap (λ zs. zs ++ y ∷ []) was ∙ append_assoc old added (y ∷ []),
@@ -120,13 +64,13 @@ added_more R f xs i old now later x y (added, was, each) h is r e = (
 )
 
 pub flat_more : {S A B C : Type 0} (R : A → B → Type 0) (f : C → B) (g : S → List A) (ss : List S) (i : ℕ) (now later : List C) (x : S)
-    → AreEach R (flat_map g (take i ss)) (map f now) → i < length ss → x ≡ get_or ss i x → ((added : List C) × (later ≡ now ++ added) × AreEach R (g x) (map f added))
-    → AreEach R (flat_map g (take (i + 1) ss)) (map f later)
+    → AllZip R (flat_map g (take i ss)) (map f now) → i < length ss → x ≡ get_or ss i x → ((added : List C) × (later ≡ now ++ added) × AllZip R (g x) (map f added))
+    → AllZip R (flat_map g (take (i + 1) ss)) (map f later)
 flat_more R f g ss i now later x each h is (added, e, more) =
     let both = each_append R (flat_map g (take i ss)) (map f now) (g x) (map f added) each more in
     rw (flat_step g ss i x h is, e, map-append f now added) both
 
-each_split : {A B : Type 0} (R : A → B → Type 0) (xs more : List A) (ys : List B) → AreEach R (xs ++ more) ys → (front : List B) × (back : List B) × AreEach R xs front × AreEach R more back
+each_split : {A B : Type 0} (R : A → B → Type 0) (xs more : List A) (ys : List B) → AllZip R (xs ++ more) ys → (front : List B) × (back : List B) × AllZip R xs front × AllZip R more back
 each_split R [] more ys each = ([], ys, tt, each)
 each_split R (x ∷ xs) more [] each = absurd each
 each_split R (x ∷ xs) more (y ∷ ys) each =
@@ -134,7 +78,7 @@ each_split R (x ∷ xs) more (y ∷ ys) each =
     (y ∷ parts.0, parts.1, (each.0, parts.2), parts.3)
 
 flat_there : {S A B : Type 0} (R : A → B → Type 0) (Fails : A → ℕ → Type 0) (g : S → List A) (ss : List S) (i : ℕ) (ys : List B) (d : S) (at : ℕ)
-    → AreEach R (flat_map g (take i ss)) ys → i < length ss → IsFirstWithout R Fails (g (get_or ss i d)) at → IsFirstWithout R Fails (flat_map g ss) at
+    → AllZip R (flat_map g (take i ss)) ys → i < length ss → FirstFailsFor R Fails (g (get_or ss i d)) at → FirstFailsFor R Fails (flat_map g ss) at
 flat_there R Fails g [] i ys d at each h first = absurd (omega arith)
 flat_there R Fails g (s ∷ ss) zero ys d at each h first = first_before R Fails (g s) (flat_map g ss) at first
 flat_there R Fails g (s ∷ ss) (suc i) ys d at each h first =
@@ -142,7 +86,7 @@ flat_there R Fails g (s ∷ ss) (suc i) ys d at each h first =
     first_after R Fails (g s) parts.0 (flat_map g ss) at parts.2 (flat_there R Fails g ss i parts.1 d at parts.3 (omega arith) first)
 
 pub flat_first : {S A B : Type 0} (R : A → B → Type 0) (Fails : A → ℕ → Type 0) (g : S → List A) (ss : List S) (i : ℕ) (ys : List B) (x : S) (at : ℕ)
-    → AreEach R (flat_map g (take i ss)) ys → i < length ss → x ≡ get_or ss i x → IsFirstWithout R Fails (g x) at → IsFirstWithout R Fails (flat_map g ss) at
+    → AllZip R (flat_map g (take i ss)) ys → i < length ss → x ≡ get_or ss i x → FirstFailsFor R Fails (g x) at → FirstFailsFor R Fails (flat_map g ss) at
 flat_first {S} R Fails g ss i ys x at each h is first =
-    let P : S → Type 0 = λ z. IsFirstWithout R Fails (g z) at in
+    let P : S → Type 0 = λ z. FirstFailsFor R Fails (g z) at in
     flat_there R Fails g ss i ys x at each h (subst P is first)

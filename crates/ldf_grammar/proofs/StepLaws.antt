@@ -1,16 +1,15 @@
 -- One element more of a list that a loop goes over.
 use Rattle.std.proofs.Common.{◌≡◌, ◌∙◌, sym, ap, refl, arith, ℕ, zero, suc, ◌+◌, ◌<◌, List, [], ◌∷◌, ◌++◌, length, take, drop, get_or, map, append-nil, add-one, drop-cons}
 use Rattle.std.specs.Prelude.{Option, Some, None}
-use Rattle.std.proofs.Common.{inl, inr}
-use Rattle.std.specs.List.{flat_map}
+use Rattle.std.specs.List.{flat_map, AllZip}
 use Rattle.std.proofs.lemmas.List.{map_more, take_more}
 use Rattle.std.proofs.lemmas.Grind.{flat_map-append}
+use Rattle.decisions.specs.ListDecisions.{FirstFails, FirstFailsFor}
 use Rattle.sig_text.specs.declared.token.Token.{Token}
 use Rattle.token_forms.specs.Pieces.{token_text}
 use Rattle.ldf_grammar.specs.declared.statement.SignalLine.{SignalLine}
 use Rattle.ldf_grammar.specs.Gather.{named_line, stated}
 use Rattle.ldf_grammar.specs.Unknown.{place_or, first_place}
-use Rattle.ldf_grammar.specs.Scaling.{AreEach, IsFirstWithout}
 
 pub map_step : {A B : Type 0} (f : A → B) (xs : List A) (i : ℕ) (x : A) (y : B) → i < length xs → x ≡ get_or xs i x → f x ≡ y
     → map f (take (i + 1) xs) ≡ map f (take i xs) ++ y ∷ []
@@ -59,23 +58,26 @@ unfolding first_place
 no_place place xs i e = ap (first_place place) (drop_all xs i e)
 
 -- counterparts, one after another
-pub each_append : {A B : Type 0} (R : A → B → Type 0) (xs : List A) (ys : List B) (more : List A) (others : List B) → AreEach R xs ys → AreEach R more others → AreEach R (xs ++ more) (ys ++ others)
+pub each_append : {A B : Type 0} (R : A → B → Type 0) (xs : List A) (ys : List B) (more : List A) (others : List B) → AllZip R xs ys → AllZip R more others → AllZip R (xs ++ more) (ys ++ others)
 each_append R [] [] more others each later = later
 each_append R [] (y ∷ ys) more others each later = absurd each
 each_append R (x ∷ xs) [] more others each later = absurd each
 each_append R (x ∷ xs) (y ∷ ys) more others each later = (each.0, each_append R xs ys more others each.1 later)
 
--- the first without a counterpart, behind some that have one
-pub first_after : {A B : Type 0} (R : A → B → Type 0) (Fails : A → ℕ → Type 0) (xs : List A) (ys : List B) (more : List A) (at : ℕ) → AreEach R xs ys
-    → IsFirstWithout R Fails more at → IsFirstWithout R Fails (xs ++ more) at
+-- the first that fails, behind some that do not
+pub first_after : {A B : Type 0} (R : A → B → Type 0) (Fails : A → ℕ → Type 0) (xs : List A) (ys : List B) (more : List A) (at : ℕ) → AllZip R xs ys
+    → FirstFailsFor R Fails more at → FirstFailsFor R Fails (xs ++ more) at
 first_after R Fails [] ys more at each first = first
 first_after R Fails (x ∷ xs) [] more at each first = absurd each
-first_after R Fails (x ∷ xs) (y ∷ ys) more at each first = inr ((y, each.0), first_after R Fails xs ys more at each.1 first)
+first_after R Fails (x ∷ xs) (y ∷ ys) more at each first =
+    let later = first_after R Fails xs ys more at each.1 first in
+    (suc later.0, ((y, each.0), later.1))
 
 -- and with others behind it
-pub first_before : {A B : Type 0} (R : A → B → Type 0) (Fails : A → ℕ → Type 0) (xs more : List A) (at : ℕ) → IsFirstWithout R Fails xs at → IsFirstWithout R Fails (xs ++ more) at
-first_before R Fails [] more at first = absurd first
-first_before R Fails (x ∷ xs) more at first = elim first [
-  | inl fails ↦ inl fails
-  | inr later ↦ inr (later.0, first_before R Fails xs more at later.1)
-]
+still_first : {A B : Type 0} (R : A → B → Type 0) (Fails : A → ℕ → Type 0) (xs more : List A) (n at : ℕ) → FirstFails R Fails xs n at → FirstFails R Fails (xs ++ more) n at
+still_first R Fails [] more n at first = absurd first
+still_first R Fails (x ∷ xs) more zero at first = first
+still_first R Fails (x ∷ xs) more (suc n) at first = (first.0, still_first R Fails xs more n at first.1)
+
+pub first_before : {A B : Type 0} (R : A → B → Type 0) (Fails : A → ℕ → Type 0) (xs more : List A) (at : ℕ) → FirstFailsFor R Fails xs at → FirstFailsFor R Fails (xs ++ more) at
+first_before R Fails xs more at first = (first.0, still_first R Fails xs more first.0 at first.1)

@@ -1,20 +1,16 @@
 -- What the steps of `read_ldf` answer.
-use Rattle.std.specs.Prelude.{◌≡◌, ℕ, true, List, [], Some, None}
+use Rattle.std.specs.Prelude.{◌≡◌, ℕ, true, List, Some, None}
+use Rattle.decisions.specs.ListDecisions.{FirstFailsFor}
 use Rattle.sig_text.specs.declared.token.Token.{Token}
 use Rattle.sig_text.specs.Tokens.{IsLexFault}
-use Rattle.token_forms.specs.Runs.{AreRun}
 use Rattle.bench_model.specs.declared.database.Entry.{Entry}
 use Rattle.bench_model.specs.declared.database.Database.{Database}
 use Rattle.bench_model.specs.Check.{IsFirstFault}
-use Rattle.ldf_grammar.specs.StatementForms.{whole_statement}
-use Rattle.ldf_grammar.specs.Run.{after_first, BreaksOff}
-use Rattle.ldf_grammar.specs.Scaling.{IsFirstWithout}
+use Rattle.ldf_grammar.specs.Run.{BreaksOff}
 use Rattle.ldf_grammar.specs.Gather.{IsCoded, AreCoded, all_encodings, definitions_of, database_of}
 use Rattle.ldf_grammar.specs.Unknown.{first_unknown}
 use Rattle.ldf_grammar.specs.Described.{IsWideEncoding}
 use Rattle.ldf_grammar.specs.declared.statement.Statement.{Statement}
-use Rattle.token_forms.specs.declared.fault.NumberFault.{NumberFault}
-use Rattle.token_forms.specs.declared.fault.NumberFault.TheVariants as numbers
 use Rattle.ldf_grammar.specs.declared.fault.LdfFault.{LdfFault}
 use Rattle.ldf_grammar.specs.declared.fault.LdfFault.TheVariants as faults
 
@@ -27,21 +23,9 @@ IsWideOrMemory Fails (faults.UnknownName at) = ⊥
 IsWideOrMemory Fails (faults.Check fault) = ⊥
 IsWideOrMemory Fails faults.Memory = Unit {0}
 
--- the number is no decimal within the limits where this holds, or memory ran out
-abbrev pub IsWideNumber : Type 0 → NumberFault → Type 0
-IsWideNumber Fails numbers.Form = Fails
-IsWideNumber Fails numbers.Wide = Fails
-IsWideNumber Fails numbers.Memory = Unit {0}
-
--- the statements behind the first one are these
-pub record AreStatements (text : List ℕ) (tokens : List Token) (statements : List Statement) : Type 0 where
-  pub rest : List Token
-  pub opened : after_first text tokens ≡ Some rest
-  pub run : AreRun (whole_statement text) rest statements []
-
 -- the statements break off at this place, or memory ran out
 abbrev pub IsBreakOrMemory : List ℕ → List Token → LdfFault → Type 0
-IsBreakOrMemory text tokens (faults.Statement at) = BreaksOff text tokens (after_first text tokens) at
+IsBreakOrMemory text tokens (faults.Statement at) = BreaksOff text tokens at
 IsBreakOrMemory text tokens (faults.Lex fault) = ⊥
 IsBreakOrMemory text tokens (faults.Scale at) = ⊥
 IsBreakOrMemory text tokens (faults.UnknownName at) = ⊥
@@ -62,7 +46,7 @@ pub record MeetsUnknown (text : List ℕ) (statements : List Statement) (at : �
   pub first : first_unknown text (definitions_of text statements coded) statements ≡ Some at
 
 abbrev pub IsFirstWide : List ℕ → List Statement → ℕ → Type 0
-IsFirstWide text statements at = IsFirstWithout (IsCoded text) (IsWideEncoding text) (all_encodings statements) at
+IsFirstWide text statements at = FirstFailsFor (IsCoded text) (IsWideEncoding text) (all_encodings statements) at
 
 -- a scaling is too wide, a name is not defined, or memory ran out
 abbrev pub FailsToGather : List ℕ → List Statement → LdfFault → Type 0

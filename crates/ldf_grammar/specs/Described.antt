@@ -1,11 +1,12 @@
 -- Which texts describe a database, and the one fault of each other text.
 use Rattle.std.specs.Prelude.{◌≡◌, ℕ, true, List, Some, None}
+use Rattle.decisions.specs.ListDecisions.{FirstFailsFor}
 use Rattle.sig_text.specs.Tokens.{IsLexFault}
 use Rattle.bench_model.specs.declared.database.Entry.{Entry}
 use Rattle.bench_model.specs.declared.database.Database.{Database}
 use Rattle.bench_model.specs.Check.{IsValid, IsFirstFault}
 use Rattle.ldf_grammar.specs.Run.{HasStatements, IsStatementFault}
-use Rattle.ldf_grammar.specs.Scaling.{IsEntryOf, IsTooWide, IsFirstWithout}
+use Rattle.ldf_grammar.specs.Scaling.{IsEntryOf, IsTooWide}
 use Rattle.ldf_grammar.specs.Gather.{IsCoded, AreCoded, all_encodings, definitions_of, database_of}
 use Rattle.ldf_grammar.specs.Unknown.{first_unknown}
 use Rattle.ldf_grammar.specs.declared.statement.Encoding.{Encoding}
@@ -15,13 +16,13 @@ use Rattle.ldf_grammar.specs.declared.fault.LdfFault.TheVariants as faults
 
 -- an encoding whose first entry of a too wide scaling stands at this place
 abbrev pub IsWideEncoding : List ℕ → Encoding → ℕ → Type 0
-IsWideEncoding text encoding at = IsFirstWithout (IsEntryOf text) (IsTooWide text) encoding.entries at
+IsWideEncoding text encoding at = FirstFailsFor (IsEntryOf text) (IsTooWide text) encoding.entries at
 
 -- the first scaling that is too wide
 pub record IsScaleFault (text : List ℕ) (at : ℕ) : Type 0 where
   pub statements : List Statement
   pub whole : HasStatements text statements
-  pub first : IsFirstWithout (IsCoded text) (IsWideEncoding text) (all_encodings statements) at
+  pub first : FirstFailsFor (IsCoded text) (IsWideEncoding text) (all_encodings statements) at
 
 -- the statements of a text whose scalings are within the limits, and the entries of its encodings
 pub record IsRead (text : List ℕ) (statements : List Statement) (coded : List (List ℕ × List Entry)) : Type 0 where

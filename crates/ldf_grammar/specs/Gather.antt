@@ -1,6 +1,6 @@
 -- The database that statements make: frames become messages; of two definitions of one name the first counts.
 use Rattle.std.specs.Prelude.{◌≡◌, ℕ, false, List, [], ◌∷◌, length, map, replicate, Option, Some, None, if◌then◌else◌}
-use Rattle.std.specs.List.{flat_map}
+use Rattle.std.specs.List.{flat_map, AllZip}
 use Rattle.std.specs.Str.{bytes_eq}
 use Rattle.sig_text.specs.declared.token.Token.{Token}
 use Rattle.token_forms.specs.Pieces.{token_text}
@@ -10,7 +10,7 @@ use Rattle.bench_model.specs.declared.database.Coding.TheVariants.{Listed}
 use Rattle.bench_model.specs.declared.database.Signal.{Signal}
 use Rattle.bench_model.specs.declared.database.Message.{Message}
 use Rattle.bench_model.specs.declared.database.Database.{Database}
-use Rattle.ldf_grammar.specs.Scaling.{AreEach, IsEntryOf}
+use Rattle.ldf_grammar.specs.Scaling.{IsEntryOf}
 use Rattle.ldf_grammar.specs.declared.statement.SignalLine.{SignalLine}
 use Rattle.ldf_grammar.specs.declared.statement.FrameSignal.{FrameSignal}
 use Rattle.ldf_grammar.specs.declared.statement.Frame.{Frame}
@@ -68,10 +68,10 @@ all_encodings statements = flat_map encodings_in statements
 
 pub record IsCoded (text : List ℕ) (encoding : Encoding) (pair : List ℕ × List Entry) : Type 0 where
   pub name : pair.0 ≡ token_text text encoding.name
-  pub entries : AreEach (IsEntryOf text) encoding.entries pair.1
+  pub entries : AllZip (IsEntryOf text) encoding.entries pair.1
 
 abbrev pub AreCoded : List ℕ → List Statement → List (List ℕ × List Entry) → Type 0
-AreCoded text statements coded = AreEach (IsCoded text) (all_encodings statements) coded
+AreCoded text statements coded = AllZip (IsCoded text) (all_encodings statements) coded
 
 -- what names stand for
 pub record Definitions : Type 0 where

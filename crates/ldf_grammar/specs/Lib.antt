@@ -1,14 +1,15 @@
 -- the meaning of a text
 pub mod Sizes
-pub mod Forms
-pub mod LineForms
-pub mod StatementForms
+pub mod Statements
 pub mod Run
 pub mod Scaling
 pub mod Gather
 pub mod Unknown
 pub mod Described
--- views of the code's types
+-- functions of the code's own shape, and views of its types
+pub mod Forms
+pub mod LineForms
+pub mod StatementForms
 pub mod Gives
 pub mod Kinds
 pub mod Lookup

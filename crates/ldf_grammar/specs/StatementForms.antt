@@ -2,7 +2,7 @@
 use Rattle.std.specs.Prelude.{ℕ, zero, suc, ◌+◌, List, [], ◌∷◌, Option, Some, None, codes, if◌then◌else◌}
 use Rattle.std.specs.Str.{bytes_eq}
 use Rattle.sig_text.specs.declared.token.Token.{Token}
-use Rattle.token_forms.specs.Pieces.{token_text, word_at}
+use Rattle.token_forms.specs.Pieces.{token_text, literal_at, word_at}
 use Rattle.token_forms.specs.Runs.{Form}
 use Rattle.ldf_grammar.specs.Sizes as sections
 use Rattle.ldf_grammar.specs.Sizes.{Section, section_of}
@@ -112,3 +112,11 @@ statement text = do
 -- the same, as one of several that stand one after another
 abbrev pub whole_statement : List ℕ → Form Statement
 whole_statement text = taking (statement text)
+
+-- the tokens after the first statement
+abbrev pub behind_name : List ℕ → Option (List Token) → Option (List Token)
+behind_name text None = None
+behind_name text (Some rest) = literal_at text (codes ";") rest
+
+unfoldable pub after_first : List ℕ → List Token → Option (List Token)
+after_first text tokens = behind_name text (literal_at text (codes "LIN_description_file") tokens)

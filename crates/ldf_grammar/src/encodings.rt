@@ -2,47 +2,28 @@
 
 ghost use Rattle.std.specs.Prelude.{◌≡◌, ◌++◌, List, map, IfOk, IfErr, OnOk};
 ghost use Rattle.std.specs.Str.{is_utf8};
-ghost use Rattle.token_forms.specs.Numbers.{signed_text};
-ghost use Rattle.ldf_grammar.specs.Scaling.{IsScaling, HasNoScaling, text_in, unit_or_empty, IsEntryOf, IsTooWide, AreEach, IsFirstWithout};
+ghost use Rattle.decisions.specs.ListDecisions.{FirstFailsFor};
+ghost use Rattle.std.specs.List.{AllZip};
+ghost use Rattle.ldf_grammar.specs.Scaling.{text_in, unit_or_empty, IsEntryOf, IsTooWide};
 ghost use Rattle.ldf_grammar.specs.Gather.{IsCoded, AreCoded, encodings_in};
 ghost use Rattle.ldf_grammar.specs.Described.{IsWideEncoding};
 ghost use Rattle.ldf_grammar.specs.Lookup.{pair_of};
-ghost use Rattle.ldf_grammar.specs.Answer.{IsWideOrMemory, IsWideNumber, IsFirstWide};
+ghost use Rattle.ldf_grammar.specs.Answer.{IsWideOrMemory, IsFirstWide};
 ghost use Rattle.ldf_grammar.specs.declared.encodings.Encoded.{Encoded as AnyEncoded};
 
 use crate::LdfFault;
 use crate::statement::{Encoding, EncodingEntry, Statement};
-use bench_model::{Entry, Scale, Text};
-use exact_scale::decimal_is_unique;
+use bench_model::{Entry, Text};
 use multiplex_tree::List;
 use sig_text::Token;
 use std::alloc::{AllocError, Global};
-use token_forms::{NumberFault, SignedNumber, decimal_of, string_content};
+use token_forms::{NumberFault, scale_of, string_content};
 
 /// An encoding: its name, and its entries as the model has them.
 #[derive(Debug, Drop)]
 pub(crate) struct Encoded {
     pub name: Token,
     pub entries: List<Entry>,
-}
-
-/// The scaling of two signed numbers.
-fn scale_of(
-    alloc: Global,
-    bytes: &[u8],
-    scale: SignedNumber,
-    offset: SignedNumber,
-) -> Result<Scale, NumberFault>
-    ensures ok { IfOk result (IsScaling (signed_text bytes.now scale) (signed_text bytes.now offset)) }
-    ensures wide { IfErr result (IsWideNumber (HasNoScaling (signed_text bytes.now scale) (signed_text bytes.now offset))) }
-{
-    let factor = decimal_of(alloc, bytes, scale)?;
-    let offset = decimal_of(alloc, bytes, offset)?;
-    decimal_is_unique();
-    match Scale::new(factor, offset) {
-        Ok(scale) => Ok(scale),
-        Err(_) => Err(NumberFault::Wide),
-    }
 }
 
 /// What a string says, or nothing where there is none.
@@ -110,7 +91,6 @@ fn entry_of(
                 scale,
                 unit: unit_of(alloc, bytes, utf8, *unit)?,
             }),
-            Err(NumberFault::Form) => Err(LdfFault::Scale { at: *at }),
             Err(NumberFault::Wide) => Err(LdfFault::Scale { at: *at }),
             Err(NumberFault::Memory) => Err(LdfFault::Memory),
         },
@@ -144,9 +124,9 @@ fn add_encodings(
 ) -> Result<(), LdfFault>
     requires { utf8 ≡ is_utf8 bytes.now }
     ensures ok { OnOk result ((added : List AnyEncoded) × (all.new.items ≡ all.old.items ++ added) ×
-        AreEach (IsCoded bytes.now) encodings.now (map (pair_of bytes.now) added)) }
+        AllZip (IsCoded bytes.now) encodings.now (map (pair_of bytes.now) added)) }
     ensures wide { IfErr result
-        (IsWideOrMemory (IsFirstWithout (IsCoded bytes.now) (IsWideEncoding bytes.now) encodings.now)) }
+        (IsWideOrMemory (FirstFailsFor (IsCoded bytes.now) (IsWideEncoding bytes.now) encodings.now)) }
 {
     for encoding in encodings {
         all.push(encode(alloc, bytes, utf8, encoding)?)?;
@@ -164,9 +144,9 @@ fn add_encoded(
 ) -> Result<(), LdfFault>
     requires { utf8 ≡ is_utf8 bytes.now }
     ensures ok { OnOk result ((added : List AnyEncoded) × (all.new.items ≡ all.old.items ++ added) ×
-        AreEach (IsCoded bytes.now) (encodings_in statement.now) (map (pair_of bytes.now) added)) }
+        AllZip (IsCoded bytes.now) (encodings_in statement.now) (map (pair_of bytes.now) added)) }
     ensures wide { IfErr result
-        (IsWideOrMemory (IsFirstWithout (IsCoded bytes.now) (IsWideEncoding bytes.now) (encodings_in statement.now))) }
+        (IsWideOrMemory (FirstFailsFor (IsCoded bytes.now) (IsWideEncoding bytes.now) (encodings_in statement.now))) }
 {
     match statement {
         Statement::Encodings { encodings } => {

@@ -26,7 +26,8 @@ mod unknown;
 
 pub use fault::LdfFault;
 pub use laws::{
-    description_exists, description_is_unique, names_are_words, one_description_or_one_fault,
+    description_exists, description_is_unique, forms_are_statements, names_are_words,
+    one_description_or_one_fault, statements_are_the_longest_run,
 };
 pub use read::read_ldf;
 pub use statement::{

@@ -1,13 +1,14 @@
 //! The statements of a text.
 
-ghost use Rattle.std.specs.Prelude.{◌≡◌, ◌<◌, length, IfOk, IfErr, IfSome};
+ghost use Rattle.std.specs.Prelude.{◌≡◌, ◌<◌, [], length, IfOk, IfErr, IfSome};
 ghost use Rattle.token_forms.specs.Views.{found_view, rest_view};
 ghost use Rattle.token_forms.specs.Runs.{IsLongestRun};
-ghost use Rattle.ldf_grammar.specs.StatementForms.{whole_statement};
-ghost use Rattle.ldf_grammar.specs.Run.{after_first, place_of};
-ghost use Rattle.ldf_grammar.specs.Answer.{AreStatements, IsBreakOrMemory};
+ghost use Rattle.ldf_grammar.specs.StatementForms.{after_first, whole_statement};
+ghost use Rattle.ldf_grammar.specs.Run.{AllRows, place_of};
+ghost use Rattle.ldf_grammar.specs.Answer.{IsBreakOrMemory};
 
 use crate::LdfFault;
+use crate::laws::forms_are_statements;
 use crate::parts::{Part, Stop};
 use crate::statement::Statement;
 use sig_text::Token;
@@ -15,7 +16,7 @@ use std::alloc::{AllocError, Global};
 use token_forms::literal_at;
 
 /// The tokens after the first statement.
-#[tactic(auto, unfolding(crate::specs::Run::after_first))]
+#[tactic(auto, unfolding(crate::specs::StatementForms::after_first))]
 fn after_first<'a>(bytes: &[u8], tokens: &'a [Token]) -> Option<&'a [Token]>
     ensures { rest_view result ≡ after_first bytes.now tokens.now }
 {
@@ -81,9 +82,10 @@ pub(crate) fn statements_of(
     bytes: &[u8],
     tokens: &[Token],
 ) -> Result<Vec<Statement>, LdfFault>
-    ensures ok { IfOk result (λ statements. AreStatements bytes.now tokens.now statements.items) }
+    ensures ok { IfOk result (λ statements. AllRows bytes.now statements.items tokens.now []) }
     ensures broken { IfErr result (IsBreakOrMemory bytes.now tokens.now) }
 {
+    forms_are_statements();
     let Some(rest) = after_first(bytes, tokens) else {
         return Err(LdfFault::Statement {
             at: place_of(bytes, tokens),

@@ -7,8 +7,3 @@ pub returns-in-Err-Wide-clause-wide : goal.returns-in-Err-Wide-clause-wide
 returns-in-Err-Wide-clause-wide c =
     let P : EncodingEntry → Type 0 = λ e. IsTooWide c.args.bytes.now e c.in-Physical.at in
     subst P (sym c.in-Physical.is) ((rw c.in-Err-Wide.field-0-is at c.in-Err-Wide.ensures.wide), refl)
-
-pub returns-in-Err-Form-clause-wide : goal.returns-in-Err-Form-clause-wide
-returns-in-Err-Form-clause-wide c =
-    let P : EncodingEntry → Type 0 = λ e. IsTooWide c.args.bytes.now e c.in-Physical.at in
-    subst P (sym c.in-Physical.is) ((rw c.in-Err-Form.field-0-is at c.in-Err-Form.ensures.wide), refl)

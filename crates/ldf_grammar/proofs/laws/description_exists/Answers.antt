@@ -1,4 +1,4 @@
-use Rattle.ldf_grammar.proofs.ExistLaws.{decided_by, some_description}
+use Rattle.ldf_grammar.proofs.ExistLaws.{some_description}
 use Rattle.ldf_grammar.proofs.laws.description_exists.Goals as goal
 
 pub returns : goal.returns
@@ -6,7 +6,10 @@ returns c = λ text. some_description (record {
   tokens = c.reading_is_unique.ensures.list;
   lexical = c.reading_is_unique.ensures.fault;
   apart = c.reading_is_unique.ensures.never_both;
-  decimal = c.decimal_is_unique.ensures;
+  rows = record { statement = c.forms_are_statements.ensures.statement; first = c.forms_are_statements.ensures.first };
+  run = c.one_longest_run.ensures.one;
+  some_scale = c.one_scale_or_none.ensures.some;
+  one_scale = c.one_scale_or_none.ensures.one;
   verdict = c.verdict_is_unique.ensures.one;
   verdicts_apart = c.verdict_is_unique.ensures.never_both;
-}) (λ t. decided_by t (c.a_decimal_text_denotes_one.ensures.limits t)) c.signals_without_parents.ensures.tree c.verdict_is_unique.ensures.some c.reading_is_unique.ensures.some text
+}) c.one_longest_run.ensures.some c.signals_without_parents.ensures.tree c.verdict_is_unique.ensures.some c.reading_is_unique.ensures.some text

@@ -7,7 +7,10 @@ returns-clause-one c = λ text a b p q. one_made (record {
   tokens = c.reading_is_unique.ensures.list;
   lexical = c.reading_is_unique.ensures.fault;
   apart = c.reading_is_unique.ensures.never_both;
-  decimal = c.decimal_is_unique.ensures;
+  rows = record { statement = c.forms_are_statements.ensures.statement; first = c.forms_are_statements.ensures.first };
+  run = c.one_longest_run.ensures.one;
+  some_scale = c.one_scale_or_none.ensures.some;
+  one_scale = c.one_scale_or_none.ensures.one;
   verdict = c.verdict_is_unique.ensures.one;
   verdicts_apart = c.verdict_is_unique.ensures.never_both;
 }) text a b p.made q.made
@@ -17,7 +20,10 @@ returns-clause-one_fault c = one_fault (record {
   tokens = c.reading_is_unique.ensures.list;
   lexical = c.reading_is_unique.ensures.fault;
   apart = c.reading_is_unique.ensures.never_both;
-  decimal = c.decimal_is_unique.ensures;
+  rows = record { statement = c.forms_are_statements.ensures.statement; first = c.forms_are_statements.ensures.first };
+  run = c.one_longest_run.ensures.one;
+  some_scale = c.one_scale_or_none.ensures.some;
+  one_scale = c.one_scale_or_none.ensures.one;
   verdict = c.verdict_is_unique.ensures.one;
   verdicts_apart = c.verdict_is_unique.ensures.never_both;
 })
@@ -27,7 +33,10 @@ returns-clause-never_both c = no_fault (record {
   tokens = c.reading_is_unique.ensures.list;
   lexical = c.reading_is_unique.ensures.fault;
   apart = c.reading_is_unique.ensures.never_both;
-  decimal = c.decimal_is_unique.ensures;
+  rows = record { statement = c.forms_are_statements.ensures.statement; first = c.forms_are_statements.ensures.first };
+  run = c.one_longest_run.ensures.one;
+  some_scale = c.one_scale_or_none.ensures.some;
+  one_scale = c.one_scale_or_none.ensures.one;
   verdict = c.verdict_is_unique.ensures.one;
   verdicts_apart = c.verdict_is_unique.ensures.never_both;
 })
