@@ -22,14 +22,15 @@ abbrev pub strays_over : Option Files → List (List ℕ) → ℕ → ℕ
 strays_over files [] strays = strays
 strays_over files (name ∷ names) strays = strays_over files names (strays_after files name strays)
 
--- calls for these names were made, one after another, and nothing else
+-- What calls for these names leave: the files stay, no count of faults falls, and the strays are counted over the names
+-- in order. Calls that succeed are not counted, so a second call for a name that is there is not seen.
 pub record Asks (before : LibraryState) (names : List (List ℕ)) (now : LibraryState) : Type 0 where
   pub files : now.files ≡ before.files
   pub opens : before.open_faults ≤ now.open_faults
   pub reads : before.more_faults ≤ now.more_faults
   pub strays : now.strays ≡ strays_over before.files names before.strays
 
--- calls for the first of these names were made, maybe for all
+-- the same of the first of these names, maybe of all
 pub record AsksFirst (before : LibraryState) (names : List (List ℕ)) (now : LibraryState) : Type 0 where
   pub asked : List (List ℕ)
   pub unasked : List (List ℕ)

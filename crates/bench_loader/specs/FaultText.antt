@@ -1,6 +1,7 @@
 -- The text of a database's fault, as the tool and the server name it: words parted by single blanks.
-use Rattle.std.specs.Prelude.{ℕ, ◌+◌, ◌^◌, List, [], ◌∷◌, ◌++◌, flat_map, codes, Option, Some, None, if◌then◌else◌}
+use Rattle.std.specs.Prelude.{ℕ, ◌+◌, ◌^◌, List, [], ◌∷◌, ◌++◌, codes, Option, Some, None, if◌then◌else◌}
 use Rattle.std.specs.Fmt.{decimal}
+use Rattle.text_words.specs.SpacedWords.{text_of_words}
 use Rattle.sig_text.specs.declared.fault.LexFault.{LexFault}
 use Rattle.sig_text.specs.declared.fault.LexFault.TheVariants as lex
 use Rattle.multiplex_tree.specs.declared.fault.MuxWhy.{MuxWhy}
@@ -16,15 +17,6 @@ use Rattle.ldf_grammar.specs.declared.fault.LdfFault.{LdfFault}
 use Rattle.ldf_grammar.specs.declared.fault.LdfFault.TheVariants as ldf
 use Rattle.bench_loader.specs.declared.fault.DatabaseFault.{DatabaseFault}
 use Rattle.bench_loader.specs.declared.fault.DatabaseFault.TheVariants as faults
-
--- a word behind a blank
-abbrev pub behind_blank : List ℕ → List ℕ
-behind_blank word = 32 ∷ word
-
--- words parted by single blanks
-abbrev pub words_text : List (List ℕ) → List ℕ
-words_text [] = []
-words_text (word ∷ words) = word ++ flat_map behind_blank words
 
 -- an identifier as one number: 2^31 more where it is extended
 abbrev pub identifier : Key → ℕ
@@ -84,4 +76,4 @@ fault_words (faults.Dbc fault) = dbc_words fault
 fault_words (faults.Ldf fault) = ldf_words fault
 
 abbrev pub fault_text : DatabaseFault → List ℕ
-fault_text fault = words_text (fault_words fault)
+fault_text fault = text_of_words (fault_words fault)

@@ -1,12 +1,13 @@
 //! The text of a fault.
 
 ghost use Rattle.std.specs.Prelude.{◌≡◌, ◌++◌, ◌∷◌, OnOk, OnErr, flat_map};
-ghost use Rattle.bench_loader.specs.FaultText.{behind_blank, words_text, identifier, mux_word, check_word, message_words, signal_words};
+ghost use Rattle.text_words.specs.SpacedWords.{behind_blank, text_of_words};
+ghost use Rattle.bench_loader.specs.FaultText.{identifier, mux_word, check_word, message_words, signal_words};
 ghost use Rattle.bench_loader.specs.FaultText.{lex_words, check_words, dbc_words, ldf_words, fault_words, fault_text};
 ghost use Rattle.exact_scale.specs.Buffer.{Extends};
 
 use crate::DatabaseFault;
-use crate::line::{append_place, append_word};
+use crate::line::append_place;
 use bench_model::{CheckFault, CheckWhy, Key, Text};
 use dbc_grammar::DbcFault;
 use itoa::Buffer;
@@ -14,6 +15,7 @@ use ldf_grammar::LdfFault;
 use multiplex_tree::MuxWhy;
 use sig_text::LexFault;
 use std::alloc::AllocError;
+use text_words::append_word;
 
 /// What an extended identifier counts more.
 const EXTENDED: u64 = 1 << 31;
@@ -53,7 +55,7 @@ fn check_word(why: CheckWhy) -> &'static [u8]
 }
 
 fn append_lex(out: &mut Vec<u8>, fault: &LexFault) -> Result<(), AllocError>
-    ensures ok { OnOk result (out.new.items ≡ out.old.items ++ words_text (lex_words fault.now)) }
+    ensures ok { OnOk result (out.new.items ≡ out.old.items ++ text_of_words (lex_words fault.now)) }
     ensures grows { Extends out.old.items out.new.items }
 {
     match fault {
@@ -90,7 +92,7 @@ fn append_signal(out: &mut Vec<u8>, signal: &Option<Text>) -> Result<(), AllocEr
 }
 
 fn append_check(out: &mut Vec<u8>, fault: &CheckFault) -> Result<(), AllocError>
-    ensures ok { OnOk result (out.new.items ≡ out.old.items ++ words_text (check_words fault.now)) }
+    ensures ok { OnOk result (out.new.items ≡ out.old.items ++ text_of_words (check_words fault.now)) }
     ensures grows { Extends out.old.items out.new.items }
 {
     match fault {
@@ -108,7 +110,7 @@ fn append_check(out: &mut Vec<u8>, fault: &CheckFault) -> Result<(), AllocError>
 }
 
 fn append_mux(out: &mut Vec<u8>, id: u32, signal: &Text, why: MuxWhy) -> Result<(), AllocError>
-    ensures ok { OnOk result (out.new.items ≡ out.old.items ++ words_text (dbc_words (DbcFault.Mux id signal.now why))) }
+    ensures ok { OnOk result (out.new.items ≡ out.old.items ++ text_of_words (dbc_words (DbcFault.Mux id signal.now why))) }
     ensures grows { Extends out.old.items out.new.items }
 {
     append_place(out, b"mux", u64::from(id))?;
@@ -117,7 +119,7 @@ fn append_mux(out: &mut Vec<u8>, id: u32, signal: &Text, why: MuxWhy) -> Result<
 }
 
 fn append_dbc(out: &mut Vec<u8>, fault: &DbcFault) -> Result<(), AllocError>
-    ensures ok { OnOk result (out.new.items ≡ out.old.items ++ words_text (dbc_words fault.now)) }
+    ensures ok { OnOk result (out.new.items ≡ out.old.items ++ text_of_words (dbc_words fault.now)) }
     ensures grows { Extends out.old.items out.new.items }
 {
     match fault {
@@ -131,7 +133,7 @@ fn append_dbc(out: &mut Vec<u8>, fault: &DbcFault) -> Result<(), AllocError>
 }
 
 fn append_ldf(out: &mut Vec<u8>, fault: &LdfFault) -> Result<(), AllocError>
-    ensures ok { OnOk result (out.new.items ≡ out.old.items ++ words_text (ldf_words fault.now)) }
+    ensures ok { OnOk result (out.new.items ≡ out.old.items ++ text_of_words (ldf_words fault.now)) }
     ensures grows { Extends out.old.items out.new.items }
 {
     match fault {
@@ -145,7 +147,7 @@ fn append_ldf(out: &mut Vec<u8>, fault: &LdfFault) -> Result<(), AllocError>
 }
 
 fn append_fault(out: &mut Vec<u8>, fault: &DatabaseFault) -> Result<(), AllocError>
-    ensures ok { OnOk result (out.new.items ≡ out.old.items ++ words_text (fault_words fault.now)) }
+    ensures ok { OnOk result (out.new.items ≡ out.old.items ++ text_of_words (fault_words fault.now)) }
     ensures grows { Extends out.old.items out.new.items }
 {
     match fault {

@@ -82,6 +82,13 @@ fn blank_outcome(alloc: Global, name: &str, count: usize) -> Result<Vec<u8>, All
 }
 
 #[test]
+fn a_file_of_just_the_limit_is_read(rt: HostRuntime) -> Result<(), Fail> {
+    let read = blank_outcome(rt.alloc(), "a.dbc", 16_777_216)?;
+    assert_eq!(rt; read.as_slice(), b"ok".as_slice());
+    Ok(())
+}
+
+#[test]
 fn a_file_above_the_limit_is_long(rt: HostRuntime) -> Result<(), Fail> {
     let long = blank_outcome(rt.alloc(), "a.dbc", 16_777_217)?;
     assert_eq!(rt; long.as_slice(), b"long".as_slice());
