@@ -20,7 +20,7 @@ use Rattle.bench_text.specs.Printing.{PrintsBuses, PrintsPrefix, Ends}
 use Rattle.bench_server.specs.declared.status.Status.TheVariants as status
 use Rattle.bench_server.specs.ToolText.{all_wanted, tool_text}
 use Rattle.bench_server.specs.EndView.{printed_status}
-use Rattle.bench_server.specs.Outcomes.{Seen, Wrote, WroteNothing, WrotePrefix, StopsAt, WroteTo, Caused, Decodes, Shows, AreFirstLogs, EndsDecode}
+use Rattle.bench_server.specs.Outcomes.{Seen, Wrote, WroteNothing, WrotePrefix, StopsAt, WroteTo, Caused, Decodes, MakesBench, Shows, AreFirstLogs, EndsDecode}
 use Rattle.bench_server.specs.Loading.{MakeBench}
 use Rattle.bench_server.proofs.OptionLaws.{if_some, of_some}
 use Rattle.bench_server.proofs.LogLaws.{reads_of, ReadOf, opened_named, all_unread, all_heard}
@@ -34,6 +34,15 @@ pub record IsLoaded (files : Files) (name : List ℕ) (plan : Plan) (bench : Ben
 
 inputs_of : (files : Files) (name : List ℕ) (plan : Plan) (bench : Bench) (l : IsLoaded files name plan bench) → HasInputs files name plan l.made.databases
 inputs_of files name plan bench l = record { has_plan = l.has_plan; databases_are = l.made.databases_are }
+
+makes_bench : (files : Files) (name : List ℕ) (plan : Plan) (bench : Bench) → IsLoaded files name plan bench → MakesBench files name
+makes_bench files name plan bench l = record {
+  plan = plan;
+  databases = l.made.databases;
+  inputs = inputs_of files name plan bench l;
+  bench = bench;
+  are_buses = l.made.are_buses;
+}
 
 -- a log that is not there is missing, and one that is there is no stray
 stray_log : (files : Files) (name : List ℕ) (plan : Plan) (bench : Bench) → IsLoaded files name plan bench → (opened : List (List ℕ)) (last : List ℕ) (behind : List (List ℕ))
@@ -60,7 +69,8 @@ open_end name plan bench s loaded o nothing =
     subst (λ (fs : Option Files). AllZip (IsFresh fs) o.opened s.logs) e o.fresh in
     record {
       caused = (o.rose, nothing, all_unread s.library.files o.opened s.logs o.fresh);
-      shows = if_some s.library.files (λ files. Unit {0}) (λ files e. tt);
+      shows = if_some s.library.files (λ files. (s.logs ≡ []) ⊎ MakesBench files name) (λ files e.
+          inr (makes_bench files name plan bench (of_some s.library.files (λ files. IsLoaded files name plan bench) files e loaded)));
       logs = if_some s.library.files (λ files. (s.logs ≡ []) ⊎ AreFirstLogs files name s.logs) (λ files e. inr (record {
         plan = plan;
         has_plan = (of_some s.library.files (λ files. IsLoaded files name plan bench) files e loaded).has_plan;
@@ -84,7 +94,7 @@ module _ (name : List ℕ) (plan : Plan) (bench : Bench) (s : Seen) (logs : List
   caused_by (Err (refused.ReadFault bus)) p = stops_failed s.library.files (log_names plan.buses) logs s.logs opens.fresh bus p.0.stops p.0.goes_on p.1 p.2
   caused_by (Err (refused.TooLong bus)) p = stops_long s.library.files (log_names plan.buses) logs s.logs opens.fresh bus p.0.stops p.0.goes_on p.1
   caused_by (Err refused.WriteFault) p = (p.1, read_in_order s.library.files (log_names plan.buses) logs s.logs opens.fresh p.0.reads)
-  caused_by (Err refused.Memory) p = tt
+  caused_by (Err refused.Memory) p = read_in_order s.library.files (log_names plan.buses) logs s.logs opens.fresh p.reads
 
   prefix_by : (bytes : List (List ℕ)) → HaveLeft logs bytes → PrintsPrefix (all_wanted bench) bench logs s.logs s.out s.out_now
       → WrotePrefix s (tool_text (record { plan = plan; bench = bench; logs = bytes }))

@@ -10,3 +10,4 @@ mod CountLaws
 mod CheckLaws
 mod PieceLaws
 mod ToolLaws
+mod WholeLaws

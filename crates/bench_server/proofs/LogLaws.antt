@@ -6,7 +6,7 @@ use Rattle.std.proofs.lemmas.Option.{none-some, same_Some}
 use Rattle.std.proofs.lemmas.List.Elements.{All-from_recursion}
 use Rattle.std.specs.Io.KnownBytes.{append_known, prepend_known}
 use Rattle.port_io.specs.OtherSide.{SourceState}
-use Rattle.bus_text.specs.Printing.{TakesBytes}
+use Rattle.candump_log.specs.Reads.{TakesBytes}
 use Rattle.bench_inputs.specs.Asking.{Files}
 use Rattle.bench_inputs.specs.BenchFiles.{HasBytes}
 use Rattle.bench_inputs.specs.Reading.{IsFresh}

@@ -20,7 +20,7 @@ use Rattle.bench_server.specs.declared.status.Status.TheVariants as status
 use Rattle.bench_server.specs.declared.refused.DecodeRefused.{DecodeRefused}
 use Rattle.bench_server.specs.declared.refused.DecodeRefused.TheVariants as refused
 use Rattle.bench_server.specs.EndView.{refused_status}
-use Rattle.bench_server.specs.Outcomes.{Seen, WroteNothing, IsUnread, Caused, Shows, AreFirstLogs, EndsDecode}
+use Rattle.bench_server.specs.Outcomes.{Seen, WroteNothing, IsHeard, IsUnread, AreHeardInOrder, Caused, Shows, AreFirstLogs, EndsDecode}
 use Rattle.bench_server.specs.Loading.{RefuseBench, LacksFile, AnswersLoad, LoadsDatabases}
 use Rattle.bench_server.proofs.OptionLaws.{if_some, of_some}
 use Rattle.bench_server.proofs.StrayLaws.{there}
@@ -94,23 +94,27 @@ ends_since before mid name s end e w h =
           (of_some s.library.files (λ files. (s.library_now.strays ≡ s.library.strays) ⊎ IsVerdict files name missing) files (since files t) h.strays));
     }
 
+-- no log was opened, and so none was read
+pub none_heard : (logs : List SourceState) → logs ≡ [] → AreHeardInOrder logs
+none_heard logs none = inl (subst (λ (ls : List SourceState). All IsHeard ls) (sym none) (All-nil IsHeard))
+
 -- the databases were not loaded
 load_caused : (buses_of : Plan) (s : Seen) (why : DecodeRefused) → AnswersLoad s.library buses_of.buses s.library_now (Err why) → WroteNothing s → s.logs ≡ [] → Caused s (refused_status why)
 load_caused plan s (refused.Database bus fault) a nothing none = (nothing, none)
 load_caused plan s refused.Open a nothing none = (a, nothing, subst (λ (ls : List SourceState). All IsUnread ls) (sym none) (All-nil IsUnread))
 load_caused plan s refused.Read a nothing none = (a, nothing, none)
 load_caused plan s (refused.Buses why) a nothing none = absurd a
-load_caused plan s refused.Memory a nothing none = tt
+load_caused plan s refused.Memory a nothing none = none_heard s.logs none
 
 load_shows : (files : Files) (name : List ℕ) (plan : Plan) (s : Seen) (why : DecodeRefused) → s.library.files ≡ Some files → HasPlan files name plan
-    → AnswersLoad s.library plan.buses s.library_now (Err why) → WroteNothing s → Shows files name s (refused_status why)
-load_shows files name plan s (refused.Database bus fault) e has a nothing =
+    → AnswersLoad s.library plan.buses s.library_now (Err why) → WroteNothing s → s.logs ≡ [] → Shows files name s (refused_status why)
+load_shows files name plan s (refused.Database bus fault) e has a nothing none =
     let r = of_some s.library.files (λ files. RefuseBench files plan.buses bus fault) files e a in
     record { plan = plan; databases = r.databases; inputs = record { has_plan = has; databases_are = r.databases_are }; is_first = r.is_first }
-load_shows files name plan s refused.Open e has a nothing = tt
-load_shows files name plan s refused.Read e has a nothing = tt
-load_shows files name plan s (refused.Buses why) e has a nothing = absurd a
-load_shows files name plan s refused.Memory e has a nothing = inl nothing
+load_shows files name plan s refused.Open e has a nothing none = inl none
+load_shows files name plan s refused.Read e has a nothing none = tt
+load_shows files name plan s (refused.Buses why) e has a nothing none = absurd a
+load_shows files name plan s refused.Memory e has a nothing none = inl (none, nothing)
 
 -- where a database is missing, that is what the files decide
 missing_database : (files : Files) (name : List ℕ) (plan : Plan) (before now : ℕ) → HasPlan files name plan → (now ≡ before) ⊎ LacksFile files plan.buses
@@ -123,7 +127,7 @@ pub load_end : (name : List ℕ) (plan : Plan) (s : Seen) (why : DecodeRefused) 
 load_end name plan s why has l nothing none = record {
   caused = load_caused plan s why l.answer nothing none;
   shows = if_some s.library.files (λ files. Shows files name s (refused_status why)) (λ files e.
-      load_shows files name plan s why e (of_some s.library.files (λ files. HasPlan files name plan) files e has) l.answer nothing);
+      load_shows files name plan s why e (of_some s.library.files (λ files. HasPlan files name plan) files e has) l.answer nothing none);
   logs = if_some s.library.files (λ files. (s.logs ≡ []) ⊎ AreFirstLogs files name s.logs) (λ files e. inl none);
   strays = if_some s.library.files (λ files. (s.library_now.strays ≡ s.library.strays) ⊎ IsVerdict files name missing) (λ files e.
       missing_database files name plan s.library.strays s.library_now.strays (of_some s.library.files (λ files. HasPlan files name plan) files e has)

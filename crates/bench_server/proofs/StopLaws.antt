@@ -7,7 +7,7 @@ use Rattle.std.specs.Io.KnownBytes.{append_known}
 use Rattle.port_io.specs.Causes.{Rose}
 use Rattle.port_io.specs.OtherSide.{SourceState, SinkState}
 use Rattle.candump_log.specs.LinesState.{log_limit}
-use Rattle.bus_text.specs.Printing.{TakesBytes}
+use Rattle.candump_log.specs.Reads.{TakesBytes}
 use Rattle.bench_model.specs.declared.database.Bench.{Bench}
 use Rattle.bench_inputs.specs.Asking.{Files}
 use Rattle.bench_inputs.specs.Reading.{IsFresh}

@@ -1,23 +1,26 @@
 -- A run of the tool: its report may lack memory, its line names buses as the bench file does, and its status agrees with
 -- whatever the files decide.
-use Rattle.std.proofs.Common.{◌≡◌, ℕ, List, Option, Some, None, refl, sym, subst, inl, inr}
+use Rattle.std.proofs.Common.{◌≡◌, ◌⊎◌, ℕ, suc, List, [], ◌∷◌, Option, Some, None, refl, sym, subst, inl, inr}
 use Rattle.std.specs.Option.{IfSome}
+use Rattle.std.specs.List.{AllZip}
+use Rattle.port_io.specs.Library.{named}
+use Rattle.decisions.specs.ListDecisions.{FirstFails}
 use Rattle.bench_file.specs.declared.plan.Plan.{Plan}
 use Rattle.std.specs.Prelude.{Ok}
 use Rattle.bench_inputs.specs.Asking.{Files, LibraryState}
 use Rattle.bench_inputs.specs.Reading.{ReadsPlan}
-use Rattle.bench_server.proofs.PhaseLaws.{plan_asked, plan_read, ends_since}
-use Rattle.bench_inputs.specs.BenchFiles.{HasPlan}
+use Rattle.bench_server.proofs.PhaseLaws.{none_heard, plan_asked, plan_read, ends_since}
+use Rattle.bench_inputs.specs.BenchFiles.{HasBytes, HasPlan, log_names}
 use Rattle.bench_loader.specs.declared.fault.DatabaseFault.{DatabaseFault}
 use Rattle.bench_model.specs.declared.database.Database.{Database}
 use Rattle.bench_loader.specs.Checking.{CheckVerdict, has_fault, has_database, IsCheckVerdict}
-use Rattle.bench_loader.specs.Verdict.{Run, Verdict, faulty, refused, decodes, IsVerdict}
+use Rattle.bench_loader.specs.Verdict.{Run, Verdict, missing, faulty, refused, decodes, IsMissing, IsVerdict}
 use Rattle.bench_server.specs.declared.status.Status.{Status}
 use Rattle.bench_server.specs.declared.status.Status.TheVariants as status
-use Rattle.bench_server.specs.Outcomes.{Seen, WroteNothing, Decodes, Caused, Shows, EndsDecode}
+use Rattle.bench_server.specs.Outcomes.{Seen, WroteNothing, Decodes, MakesBench, Caused, Shows, EndsDecode}
 use Rattle.bench_server.specs.CheckOutcomes.{Counts, ShowsCheck}
 use Rattle.bench_server.specs.Reporting.{Stays}
-use Rattle.bench_server.specs.Tool.{EndsTool, Decided, Agrees, AgreesWithFiles, NothingFailed, IsWhole, Held, AgreesCheck}
+use Rattle.bench_server.specs.Tool.{EndsTool, Decided, MayOpenLogs, Agrees, AgreesWithFiles, Held, AgreesCheck}
 use Rattle.tool_words.specs.Commands.{ToolCommand}
 use Rattle.tool_words.specs.Commands as commands
 use Rattle.bench_server.proofs.OptionLaws.{if_some, of_some}
@@ -27,10 +30,14 @@ nothing_written : (s : Seen) (bus : Option ℕ) (fault : DatabaseFault) → Caus
 nothing_written s None fault c = absurd c
 nothing_written s (Some bus) fault c = c.0
 
+no_logs : (s : Seen) (bus : Option ℕ) (fault : DatabaseFault) → Caused s (status.Refused bus fault) → s.logs ≡ []
+no_logs s None fault c = absurd c
+no_logs s (Some bus) fault c = c.1
+
 lacking : (name : List ℕ) (s : Seen) (bus : Option ℕ) (fault : DatabaseFault) → EndsDecode name s (status.Refused bus fault) → EndsDecode name s status.Memory
 lacking name s bus fault h = record {
-  caused = tt;
-  shows = if_some s.library.files (λ files. Shows files name s status.Memory) (λ files e. inl (nothing_written s bus fault h.caused));
+  caused = none_heard s.logs (no_logs s bus fault h.caused);
+  shows = if_some s.library.files (λ files. Shows files name s status.Memory) (λ files e. inl (no_logs s bus fault h.caused, nothing_written s bus fault h.caused));
   logs = h.logs;
   strays = h.strays;
 }
@@ -51,6 +58,42 @@ plan_decoded name before plan s end was now r h e stays =
     let ended : EndsDecode name seen_before end = ends_since before s.library name s end refl (plan_asked name before s.library (Ok plan) r) (h (plan_read name before s.library plan r)) in
     reported name seen_before was now (subst (λ (t : Status). EndsDecode name seen_before t) (sym e) ended) stays
 
+-- each of these names is of a file that is there, or one is not
+abbrev LogsFound : Files → List (List ℕ) → Type 0
+LogsFound files names = ((bytes : List (List ℕ)) × AllZip (HasBytes files) names bytes) ⊎ ((at : ℕ) × FirstFails (HasBytes files) (IsMissing files) names at tt)
+
+one_more : (files : Files) (name : List ℕ) (names : List (List ℕ)) (o : Option (List ℕ)) → named files name ≡ o → LogsFound files names → LogsFound files (name ∷ names)
+one_more files name names None e more = inr (0, e)
+one_more files name names (Some log) e more = elim more [ inl all ↦ inl (log ∷ all.0, (e, all.1)) | inr lost ↦ inr (suc lost.0, ((log, e), lost.1)) ]
+
+logs_found : (files : Files) (names : List (List ℕ)) → LogsFound files names
+logs_found files [] = inl ([], tt)
+logs_found files (name ∷ names) = one_more files name names (named files name) refl (logs_found files names)
+
+-- a bench that the files make is decoded, or one of its logs is missing
+bench_made : (files : Files) (name : List ℕ) → MakesBench files name → (v : Verdict) × IsVerdict files name v × MayOpenLogs v
+bench_made files name m =
+    elim (logs_found files (log_names m.plan.buses)) [
+      | inl logs ↦ (
+        decodes (record { plan = m.plan; bench = m.bench; logs = logs.0 }),
+        record { databases = m.databases; inputs = m.inputs; are_buses = m.are_buses; logs_are = logs.1 },
+        tt,
+      )
+      | inr lost ↦ (
+        missing,
+        inr (inr (record {
+          plan = m.plan;
+          databases = m.databases;
+          inputs = m.inputs;
+          bench = m.bench;
+          are_buses = m.are_buses;
+          first = (lost.0, tt);
+          lacks = lost.1;
+        })),
+        tt,
+      )
+    ]
+
 -- whatever verdict the files have, the status agrees
 module _ (files : Files) (name : List ℕ) (s : Seen) (one : (v w : Verdict) → IsVerdict files name v → IsVerdict files name w → v ≡ w) where
   decided : (Holds : Run → Type 0) → Decodes files name s.logs Holds → (v : Verdict) → IsVerdict files name v → Decided v Holds
@@ -62,29 +105,16 @@ module _ (files : Files) (name : List ℕ) (s : Seen) (one : (v w : Verdict) →
   agrees (status.BenchFile line) h v i = one v (faulty line) i h
   agrees (status.Refused None fault) h v i = h
   agrees (status.Refused (Some bus) fault) h v i = one v (refused bus fault) i h
-  agrees status.OpenFault h v i = tt
+  agrees status.OpenFault h v i =
+      elim h [
+        | inl none ↦ inl none
+        | inr made ↦ let w = bench_made files name made in inr (subst MayOpenLogs (one w.0 v w.1 i) w.2)
+      ]
   agrees (status.ReadFault None) h v i = tt
   agrees (status.ReadFault (Some bus)) h v i = decided _ h v i
   agrees status.WriteFault h v i = decided _ h v i
   agrees (status.TooLong bus) h v i = decided _ h v i
-  agrees status.Memory h v i = tt
-
-whole_by : (s : Seen) (end : Status) (run : Run) → Caused s end → Agrees (decodes run) s end → NothingFailed s → IsWhole end
-whole_by s status.Ok run c a n = inl refl
-whole_by s status.Usage run c a n = absurd c
-whole_by s (status.BenchFile line) run c a n = cc
-whole_by s (status.Refused None fault) run c a n = absurd c
-whole_by s (status.Refused (Some bus) fault) run c a n = cc
-whole_by s status.OpenFault run c a n = absurd (n.opens c.0)
-whole_by s (status.ReadFault None) run c a n = absurd (n.reads c.0)
-whole_by s (status.ReadFault (Some bus)) run c a n = absurd (n.logs bus c)
-whole_by s status.WriteFault run c a n = absurd (n.writes c.0)
-whole_by s (status.TooLong bus) run c a n = absurd (n.short bus c)
-whole_by s status.Memory run c a n = inr refl
-
--- where nothing failed, the run is whole or memory ran out
-pub whole : (bench : List ℕ) (s : Seen) (end : Status) (run : Run) → EndsDecode bench s end → Agrees (decodes run) s end → NothingFailed s → IsWhole end
-whole bench s end run h a n = whole_by s end run h.caused a n
+  agrees status.Memory h v i = elim h [ inl none ↦ inl none | inr d ↦ inr (decided _ d v i) ]
 
 -- the same of a file that is checked
 module _ (files : Files) (name : List ℕ) (s : Seen) (one : (v w : CheckVerdict) → IsCheckVerdict files name v → IsCheckVerdict files name w → v ≡ w) where

@@ -13,6 +13,8 @@ use Rattle.bench_text.specs.declared.refused.BusesRefused.{BusesRefused}
 use Rattle.bench_text.specs.declared.refused.BusesRefused.TheVariants as buses
 use Rattle.bench_server.specs.declared.refused.DecodeRefused.{DecodeRefused}
 use Rattle.bench_server.specs.declared.refused.DecodeRefused.TheVariants as refused
+use Rattle.bench_server.specs.declared.ended.Ended.{Ended}
+use Rattle.bench_server.specs.declared.ended.Ended.TheVariants as ended
 use Rattle.bench_server.specs.declared.status.Status.{Status}
 use Rattle.bench_server.specs.declared.status.Status.TheVariants as status
 
@@ -61,3 +63,11 @@ check_status check.Memory = status.Memory
 abbrev pub written_status : Result (Unit {0}) Failed → Status
 written_status (Ok done) = status.Ok
 written_status (Err failed) = status.WriteFault
+
+abbrev pub status_of : Ended → Status
+status_of ended.Usage = status.Usage
+status_of (ended.Plan why) = plan_status why
+status_of (ended.Decode end) = decode_status end
+status_of (ended.Check why) = check_status why
+status_of (ended.Write end) = written_status end
+status_of ended.Report = status.Memory

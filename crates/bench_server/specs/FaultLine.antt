@@ -1,7 +1,8 @@
 -- The lines of the error output.
 use Rattle.std.specs.Prelude.{ℕ, List, [], ◌∷◌, ◌++◌, codes, slice_index_or, Option, Some, None}
 use Rattle.std.specs.Fmt.{decimal}
-use Rattle.bench_loader.specs.FaultText.{fault_words, words_text}
+use Rattle.text_words.specs.SpacedWords.{text_of_words}
+use Rattle.bench_loader.specs.FaultText.{fault_words}
 use Rattle.bench_server.specs.declared.status.Status.{Status}
 use Rattle.bench_server.specs.declared.status.Status.TheVariants as status
 
@@ -28,7 +29,7 @@ status_words names status.Memory = codes "memory" ∷ []
 -- a line of words, parted by single blanks; no words have no line
 abbrev pub line_of : List (List ℕ) → List ℕ
 line_of [] = []
-line_of (word ∷ words) = words_text (word ∷ words) ++ 10 ∷ []
+line_of (word ∷ words) = text_of_words (word ∷ words) ++ 10 ∷ []
 
 abbrev pub fault_line : List (List ℕ) → Status → List ℕ
 fault_line names s = line_of (status_words names s)

@@ -1,16 +1,19 @@
 -- How a run of `decode` ends. One table says what caused each status, whatever is told of the outside, and one what it
 -- shows where the library tells its files.
-use Rattle.std.specs.Prelude.{◌≡◌, ◌⊎◌, ℕ, ◌<◌, ◌≤◌, true, false, List, [], ◌∷◌, ◌++◌, length, take, All, Some, None, IfSome}
+use Rattle.std.specs.Prelude.{◌≡◌, ◌⊎◌, ℕ, ◌<◌, ◌≤◌, true, false, List, [], ◌∷◌, ◌++◌, length, take, zip, All, Some, None, IfSome}
 use Rattle.std.specs.List.{AllZip}
 use Rattle.std.specs.Option.{option_map}
 use Rattle.std.specs.Io.KnownBytes.{append_known}
 use Rattle.port_io.specs.Causes.{Rose}
 use Rattle.port_io.specs.OtherSide.{SourceState, SinkState}
 use Rattle.candump_log.specs.LinesState.{log_limit}
+use Rattle.bench_model.specs.declared.database.Bench.{Bench}
 use Rattle.bench_file.specs.declared.plan.Plan.{Plan}
+use Rattle.bench_inputs.specs.declared.database_file.DatabaseFile.{DatabaseFile}
 use Rattle.bench_inputs.specs.Asking.{Files, LibraryState}
 use Rattle.bench_inputs.specs.BenchFiles.{HasBytes, HasPlan, HasFaultyPlan, log_names}
-use Rattle.bench_loader.specs.Verdict.{Run, missing, IsVerdict, IsRefusedBench, IsRun}
+use Rattle.bench_loader.specs.Judging.{AreBuses}
+use Rattle.bench_loader.specs.Verdict.{Run, missing, IsVerdict, HasInputs, IsRefusedBench, IsRun}
 use Rattle.bench_server.specs.declared.status.Status.{Status}
 use Rattle.bench_server.specs.declared.status.Status.TheVariants as status
 use Rattle.bench_server.specs.ToolText.{text_of, text_up_to, tool_text}
@@ -90,7 +93,7 @@ Caused s (status.ReadFault None) =
 Caused s (status.ReadFault (Some bus)) = StopsAt s.logs bus HasFailed
 Caused s status.WriteFault = Rose s.out.write_faults s.out_now.write_faults × AreHeardInOrder s.logs
 Caused s (status.TooLong bus) = StopsAt s.logs bus IsTooLong
-Caused s status.Memory = Unit {0}
+Caused s status.Memory = AreHeardInOrder s.logs
 
 -- the bytes taken of a log and then those left are these
 pub record IsLogOf (bytes : List ℕ) (log : SourceState) : Type 0 where
@@ -107,10 +110,22 @@ pub record Decodes (files : Files) (name : List ℕ) (logs_now : List SourceStat
   pub logs : AllZip IsLogOf run.logs logs_now
   pub holds : Holds run
 
+-- the bench file and all databases are there, and they make a bench
+pub record MakesBench (files : Files) (name : List ℕ) : Type 0 where
+  pub plan : Plan
+  pub databases : List DatabaseFile
+  pub inputs : HasInputs files name plan databases
+  pub bench : Bench
+  pub are_buses : AreBuses (zip plan.buses databases) bench.buses
+
 -- the texts of the buses before this place were written, and then that of this one as far as its log was taken
 abbrev pub WroteTo : Seen → Run → ℕ → SourceState → Type 0
 WroteTo s run bus log = (took : List ℕ) × (log.taken ≡ Some took)
     × Wrote s (text_of run.bench (take bus run.logs) ++ text_up_to run.bench bus took)
+
+-- no log was opened and nothing was written
+abbrev pub DidNothing : Seen → Type 0
+DidNothing s = (s.logs ≡ []) × WroteNothing s
 
 -- what each status shows of the files, and what was written
 abbrev pub Shows : Files → List ℕ → Seen → Status → Type 0
@@ -119,12 +134,12 @@ Shows files name s status.Usage = ⊥
 Shows files name s (status.BenchFile line) = HasFaultyPlan files name line
 Shows files name s (status.Refused None fault) = ⊥
 Shows files name s (status.Refused (Some bus) fault) = IsRefusedBench files name bus fault
-Shows files name s status.OpenFault = Unit {0}
+Shows files name s status.OpenFault = (s.logs ≡ []) ⊎ MakesBench files name
 Shows files name s (status.ReadFault None) = Unit {0}
 Shows files name s (status.ReadFault (Some bus)) = Decodes files name s.logs (λ run. StopsAt s.logs bus (WroteTo s run bus))
 Shows files name s status.WriteFault = Decodes files name s.logs (λ run. WrotePrefix s (tool_text run))
 Shows files name s (status.TooLong bus) = Decodes files name s.logs (λ run. StopsAt s.logs bus (WroteTo s run bus))
-Shows files name s status.Memory = WroteNothing s ⊎ Decodes files name s.logs (λ run. WrotePrefix s (tool_text run))
+Shows files name s status.Memory = DidNothing s ⊎ Decodes files name s.logs (λ run. WrotePrefix s (tool_text run))
 
 -- the file of this name is there, and what was taken of this log and what is left of it are its bytes
 abbrev pub IsLogNamed : Files → List ℕ → SourceState → Type 0

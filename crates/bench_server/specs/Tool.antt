@@ -1,7 +1,8 @@
 -- A run of the tool for the words of its command line.
-use Rattle.std.specs.Prelude.{◌≡◌, ◌⊎◌, ℕ, List, [], map, Option, Some, None, IfSome}
+use Rattle.std.specs.Prelude.{◌≡◌, ◌⊎◌, ℕ, ◌<◌, List, [], length, map, All, Option, Some, None, IfSome}
 use Rattle.port_io.specs.Causes.{Rose}
-use Rattle.port_io.specs.OtherSide.{SinkState}
+use Rattle.port_io.specs.OtherSide.{SourceState, SinkState}
+use Rattle.candump_log.specs.LinesState.{log_limit}
 use Rattle.tool_words.specs.Commands.{ToolCommand, Decodes, Checks}
 use Rattle.bench_file.specs.declared.plan.Plan.{Plan}
 use Rattle.bench_file.specs.declared.plan.PlannedBus.{PlannedBus}
@@ -13,7 +14,7 @@ use Rattle.bench_server.specs.declared.status.Status.TheVariants as status
 use Rattle.bench_model.specs.declared.database.Database.{Database}
 use Rattle.bench_loader.specs.Checking.{CheckVerdict, not_there, has_fault, has_database, IsCheckVerdict}
 use Rattle.bench_server.specs.ToolText.{tool_text, check_text}
-use Rattle.bench_server.specs.Outcomes.{Seen, Wrote, WrotePrefix, HasFailed, IsTooLong, StopsAt, WroteTo, EndsDecode}
+use Rattle.bench_server.specs.Outcomes.{Seen, Wrote, WrotePrefix, DidNothing, StopsAt, WroteTo, EndsDecode}
 use Rattle.bench_server.specs.CheckOutcomes.{EndsCheck}
 use Rattle.bench_server.specs.Pieces.{WritesFront}
 use Rattle.bench_server.specs.FaultLine.{fault_line}
@@ -38,6 +39,13 @@ Decided (faulty line) Holds = ⊥
 Decided (refused bus fault) Holds = ⊥
 Decided (decodes run) Holds = Holds run
 
+-- the files decide that the bench file is no fault and no database is refused, so that logs may be opened
+abbrev pub MayOpenLogs : Verdict → Type 0
+MayOpenLogs missing = Unit {0}
+MayOpenLogs (faulty line) = ⊥
+MayOpenLogs (refused bus fault) = ⊥
+MayOpenLogs (decodes run) = Unit {0}
+
 -- what each status says of the verdict that the files decide
 abbrev pub Agrees : Verdict → Seen → Status → Type 0
 Agrees v s status.Ok = Decided v (λ run. Wrote s (tool_text run))
@@ -45,12 +53,12 @@ Agrees v s status.Usage = ⊥
 Agrees v s (status.BenchFile line) = v ≡ faulty line
 Agrees v s (status.Refused None fault) = ⊥
 Agrees v s (status.Refused (Some bus) fault) = v ≡ refused bus fault
-Agrees v s status.OpenFault = Unit {0}
+Agrees v s status.OpenFault = (s.logs ≡ []) ⊎ MayOpenLogs v
 Agrees v s (status.ReadFault None) = Unit {0}
 Agrees v s (status.ReadFault (Some bus)) = Decided v (λ run. StopsAt s.logs bus (WroteTo s run bus))
 Agrees v s status.WriteFault = Decided v (λ run. WrotePrefix s (tool_text run))
 Agrees v s (status.TooLong bus) = Decided v (λ run. StopsAt s.logs bus (WroteTo s run bus))
-Agrees v s status.Memory = Unit {0}
+Agrees v s status.Memory = DidNothing s ⊎ Decided v (λ run. WrotePrefix s (tool_text run))
 
 -- the file is a database, and this holds of it
 abbrev pub Held : CheckVerdict → (Database → Type 0) → Type 0
@@ -115,13 +123,16 @@ ReportsTool files (Some (Decodes bench)) err err_now end =
 ReportsTool files (Some (Checks file)) err err_now end = Reports (λ names. names ≡ []) err err_now end
 ReportsTool files None err err_now end = Reports (λ names. names ≡ []) err err_now end
 
--- no count of faults rose, no read of a log failed, and no log has 2^40 bytes taken of it without having ended
+-- no count of faults rose, of the library, of the output or of a log
 pub record NothingFailed (s : Seen) : Type 0 where
   pub opens : Rose s.library.open_faults s.library_now.open_faults → ⊥
   pub reads : Rose s.library.more_faults s.library_now.more_faults → ⊥
   pub writes : Rose s.out.write_faults s.out_now.write_faults → ⊥
-  pub logs : (bus : ℕ) → StopsAt s.logs bus HasFailed → ⊥
-  pub short : (bus : ℕ) → StopsAt s.logs bus IsTooLong → ⊥
+  pub logs : All (λ (log : SourceState). log.read_faults ≡ 0) s.logs
+
+-- each log is shorter than 2^40 bytes
+abbrev pub AreShort : List (List ℕ) → Type 0
+AreShort logs = All (λ (bytes : List ℕ). length bytes < log_limit) logs
 
 -- the run is whole, or memory ran out
 abbrev pub IsWhole : Status → Type 0

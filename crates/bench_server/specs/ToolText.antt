@@ -7,7 +7,7 @@ use Rattle.bench_model.specs.declared.database.Bus.{Bus}
 use Rattle.bench_model.specs.declared.database.Bench.{Bench}
 use Rattle.subscriber_text.specs.Wants.{WantList}
 use Rattle.bench_text.specs.BenchText.{part_text, bench_text}
-use Rattle.bench_loader.specs.FaultText.{words_text}
+use Rattle.text_words.specs.SpacedWords.{text_of_words}
 use Rattle.bench_loader.specs.Verdict.{Run}
 
 -- the names of the buses of a bench
@@ -37,4 +37,4 @@ signal_count (message ∷ messages) = length message.signals + signal_count mess
 -- the text of `check`: `ok`, the number of messages and that of signals
 abbrev pub check_text : Database → List ℕ
 check_text d =
-    words_text (codes "ok" ∷ decimal (length d.messages) ∷ decimal (signal_count d.messages) ∷ []) ++ 10 ∷ []
+    text_of_words (codes "ok" ∷ decimal (length d.messages) ∷ decimal (signal_count d.messages) ∷ []) ++ 10 ∷ []

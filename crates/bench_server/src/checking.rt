@@ -10,8 +10,8 @@ ghost use Rattle.bench_server.specs.CheckOutcomes.{EndsCheck};
 ghost use Rattle.bench_server.specs.Loading.{seen, Keeps};
 
 use crate::Status;
+use crate::ended::{Ended, status_of};
 use crate::pieces::write_pieces;
-use crate::refused::{check_status, written_status};
 use bench_loader::check_file;
 use bench_model::{Database, valid_keeps_rules};
 use itoa::Buffer;
@@ -64,7 +64,7 @@ pub(crate) fn check<B: Library, K: Sink>(
         (sink_told (K.written out.old) (K.write_faults out.old)) (sink_told (K.written out.new) (K.write_faults out.new)) []) }
 {
     match check_file(alloc, library, name) {
-        Ok(valid) => written_status(write_counts(out, valid.database())),
-        Err(refused) => check_status(refused),
+        Ok(valid) => status_of(Ended::Write(write_counts(out, valid.database()))),
+        Err(refused) => status_of(Ended::Check(refused)),
     }
 }

@@ -1,12 +1,14 @@
 //! Laws of the definitions that the contract of `run_tool` cites. They have no code.
 
-ghost use Rattle.std.specs.Prelude.{◌≡◌, ℕ, List};
+ghost use Rattle.std.specs.Prelude.{◌≡◌, ℕ, List, Some};
+ghost use Rattle.bench_model.specs.declared.database.Database.{Database};
 ghost use Rattle.bench_inputs.specs.Asking.{Files};
-ghost use Rattle.bench_loader.specs.Checking.{CheckVerdict, IsCheckVerdict};
-ghost use Rattle.bench_loader.specs.Verdict.{Run, Verdict, decodes, IsVerdict};
+ghost use Rattle.bench_loader.specs.Checking.{CheckVerdict, IsCheckVerdict, HoldsNamed};
+ghost use Rattle.bench_loader.specs.Verdict.{Run, Verdict, IsVerdict, IsRun};
 ghost use Rattle.bench_server.specs.declared.status.Status.{Status};
 ghost use Rattle.bench_server.specs.Outcomes.{Seen, EndsDecode};
-ghost use Rattle.bench_server.specs.Tool.{Agrees, NothingFailed, IsWhole};
+ghost use Rattle.bench_server.specs.CheckOutcomes.{EndsCheck};
+ghost use Rattle.bench_server.specs.Tool.{NothingFailed, AreShort, IsWhole};
 
 use bench_loader::{one_check, one_verdict};
 
@@ -22,9 +24,14 @@ pub fn one_end()
     one_check();
 }
 
-/// Where the files decide that logs are decoded and nothing of the outside failed, the run is whole, unless memory ran
-/// out.
+/// Where the files make a run whose logs are shorter than 2^40 bytes, and nothing of the outside failed, the run is
+/// whole, unless memory ran out. So is the check of a file that is a database.
 pub fn a_run_without_faults_is_whole()
-    ensures { (bench : List ℕ) (s : Seen) (end : Status) (run : Run) → EndsDecode bench s end → Agrees (decodes run) s end
-        → NothingFailed s → IsWhole end }
-{}
+    ensures decode { (files : Files) (bench : List ℕ) (run : Run) (s : Seen) (end : Status) → s.library.files ≡ Some files
+        → IsRun files bench run → AreShort run.logs → EndsDecode bench s end → NothingFailed s → IsWhole end }
+    ensures check { (files : Files) (file : List ℕ) (d : Database) (s : Seen) (end : Status) → s.library.files ≡ Some files
+        → HoldsNamed files file d → EndsCheck file s end → NothingFailed s → IsWhole end }
+{
+    one_verdict();
+    one_check();
+}

@@ -12,6 +12,7 @@
 
 mod checking;
 mod decoding;
+mod ended;
 mod laws;
 mod pieces;
 mod refused;

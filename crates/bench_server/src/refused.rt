@@ -1,13 +1,8 @@
-//! Why the buses of a plan were not decoded whole, and the status that this gives.
+//! Why the buses of a plan were not decoded whole.
 
-ghost use Rattle.std.specs.Prelude.{◌≡◌};
-ghost use Rattle.bench_server.specs.EndView.{decode_status, buses_status, plan_status, check_status, written_status};
-
-use crate::Status;
 use bench_inputs::{FileRefused, LogRefused};
-use bench_loader::{CheckRefused, DatabaseFault};
+use bench_loader::DatabaseFault;
 use bench_text::BusesRefused;
-use port_io::Failed;
 use std::alloc::{AllocError, AllocFailed};
 use thiserror::Error;
 
@@ -101,68 +96,5 @@ impl<T: Drop> From<AllocFailed<T>> for DecodeRefused {
 
     fn from(_: AllocFailed<T>) -> DecodeRefused {
         DecodeRefused::Memory
-    }
-}
-
-/// The status of buses that were decoded, or why they were not.
-pub(crate) fn decode_status(end: Result<(), DecodeRefused>) -> Status
-    ensures { result ≡ decode_status end }
-{
-    match end {
-        Ok(()) => Status::Ok,
-        Err(DecodeRefused::Database { bus, fault }) => Status::Refused {
-            bus: Some(bus),
-            fault,
-        },
-        Err(DecodeRefused::Open) => Status::OpenFault,
-        Err(DecodeRefused::Read) => Status::ReadFault { bus: None },
-        Err(DecodeRefused::Buses { refused }) => buses_status(refused),
-        Err(DecodeRefused::Memory) => Status::Memory,
-    }
-}
-
-/// The status of texts that go no further.
-fn buses_status(refused: BusesRefused) -> Status
-    ensures { result ≡ buses_status refused }
-{
-    match refused {
-        BusesRefused::ReadFault { bus } => Status::ReadFault { bus: Some(bus) },
-        BusesRefused::TooLong { bus } => Status::TooLong { bus },
-        BusesRefused::WriteFault => Status::WriteFault,
-        BusesRefused::Memory => Status::Memory,
-    }
-}
-
-/// The status of a bench file that gives no plan.
-pub(crate) fn plan_status(refused: bench_inputs::BenchRefused) -> Status
-    ensures { result ≡ plan_status refused }
-{
-    match refused {
-        bench_inputs::BenchRefused::Line { line } => Status::BenchFile { line },
-        bench_inputs::BenchRefused::Open => Status::OpenFault,
-        bench_inputs::BenchRefused::Read => Status::ReadFault { bus: None },
-        bench_inputs::BenchRefused::Memory => Status::Memory,
-    }
-}
-
-/// The status of a file that is checked and gives no database.
-pub(crate) fn check_status(refused: CheckRefused) -> Status
-    ensures { result ≡ check_status refused }
-{
-    match refused {
-        CheckRefused::Fault { fault } => Status::Refused { bus: None, fault },
-        CheckRefused::Open => Status::OpenFault,
-        CheckRefused::Read => Status::ReadFault { bus: None },
-        CheckRefused::Memory => Status::Memory,
-    }
-}
-
-/// The status of a text that was written, or not.
-pub(crate) fn written_status(written: Result<(), Failed>) -> Status
-    ensures { result ≡ written_status written }
-{
-    match written {
-        Ok(()) => Status::Ok,
-        Err(Failed) => Status::WriteFault,
     }
 }

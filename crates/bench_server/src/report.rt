@@ -1,7 +1,7 @@
 //! The line that a status appends to the error output.
 
 ghost use Rattle.std.specs.Prelude.{◌≡◌, ◌++◌, [], flat_map, slice_index_or, IfOk, OnOk};
-ghost use Rattle.bench_loader.specs.FaultText.{behind_blank};
+ghost use Rattle.text_words.specs.SpacedWords.{behind_blank};
 ghost use Rattle.bus_text.specs.Fronts.{sink_told};
 ghost use Rattle.bench_server.specs.Pieces.{WritesFront, joined};
 ghost use Rattle.bench_server.specs.FaultLine.{bus_words, fault_line, HasPlainLine};
@@ -9,12 +9,14 @@ ghost use Rattle.bench_server.specs.Reporting.{Stays};
 ghost use Rattle.bench_server.specs.Tool.{plan_names};
 
 use crate::Status;
+use crate::ended::{Ended, status_of};
 use crate::pieces::write_pieces;
 use bench_file::PlannedBus;
 use bench_loader::DatabaseFault;
 use itoa::Buffer;
 use port_io::Sink;
 use std::alloc::{AllocError, Global};
+use text_words::append_word;
 
 /// The line of words that are those of no command: the words of every command of the finished program.
 const USAGE: &[u8] =
@@ -36,8 +38,7 @@ fn append_bus(line: &mut Vec<u8>, buses: &[PlannedBus], bus: Option<u32>) -> Res
         ≡ line.old.items ++ flat_map behind_blank (bus_words (plan_names buses.now) bus)) }
 {
     if let Some(bus) = bus {
-        line.push(b' ')?;
-        line.extend_from_slice(name_of(buses, bus))?;
+        append_word(line, name_of(buses, bus))?;
     }
     Ok(())
 }
@@ -115,8 +116,9 @@ pub(crate) fn report<E: Sink>(
             status
         }
         Err(_) => {
-            append_line(err, buses, &Status::Memory);
-            Status::Memory
+            let memory = status_of(Ended::Report);
+            append_line(err, buses, &memory);
+            memory
         }
     }
 }

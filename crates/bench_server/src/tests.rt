@@ -94,17 +94,17 @@ fn words_of(alloc: Global, words: &[&str]) -> Result<Vec<String>, AllocError> {
     Ok(made)
 }
 
-/// Runs the tool over files in memory.
-fn run(
-    rt: &impl Abort,
+/// Runs the tool over these files in memory.
+fn run_over(
     alloc: Global,
-    case: &Case<'_>,
+    words: &[&str],
+    files: &[MemFile],
     outside: &Outside<'_>,
-) -> Result<Left, AllocError> {
-    assert!(rt; 1 <= outside.step);
-    let words = words_of(alloc, case.words)?;
-    let files = files_of(alloc, case.files, outside)?;
-    let mut library = MemLibrary::new(&files, Vec::from_slice(alloc, outside.library)?);
+) -> Result<Left, AllocError>
+    requires { 1 ≤ outside.now.step }
+{
+    let words = words_of(alloc, words)?;
+    let mut library = MemLibrary::new(files, Vec::from_slice(alloc, outside.library)?);
     let mut out = MemSink::new(
         vec![in alloc; 0; outside.room]?,
         outside.step,
@@ -122,6 +122,18 @@ fn run(
         err: Vec::from_slice(alloc, err.bytes())?,
         logs: ran.logs.items().len(),
     })
+}
+
+/// Runs the tool over the files of a case.
+fn run(
+    rt: &impl Abort,
+    alloc: Global,
+    case: &Case<'_>,
+    outside: &Outside<'_>,
+) -> Result<Left, AllocError> {
+    assert!(rt; 1 <= outside.step);
+    let files = files_of(alloc, case.files, outside)?;
+    run_over(alloc, case.words, &files, outside)
 }
 
 /// The exit status, the output and the error line of a run, and how many logs were handed back.
@@ -152,19 +164,49 @@ fn ends(
 /// The files of a bench that is decoded, and its text.
 type Decoded = (&'static [File<'static>], &'static [u8]);
 
-/// Each bench is decoded to its text.
-fn each_decodes(rt: &impl Abort, alloc: Global, rows: &[Decoded]) -> Result<(), AllocError> {
+/// Each bench is decoded to its text, where the outside behaves so.
+fn all_decode(
+    rt: &impl Abort,
+    alloc: Global,
+    rows: &[Decoded],
+    outside: &Outside<'_>,
+) -> Result<(), AllocError> {
     for (files, out) in rows {
         let case = Case {
             words: DECODE,
             files,
         };
-        let left = run(rt, alloc, &case, &QUIET)?;
+        let left = run(rt, alloc, &case, outside)?;
         assert_eq!(rt; left.status.code(), 0);
         assert_eq!(rt; left.out.as_slice(), *out);
         assert_eq!(rt; left.err.len(), 0);
     }
     Ok(())
+}
+
+/// The same with each of these numbers of bytes a call.
+fn all_decode_by(
+    rt: &impl Abort,
+    alloc: Global,
+    rows: &[Decoded],
+    steps: &[usize],
+) -> Result<(), AllocError> {
+    for step in steps {
+        let outside = Outside {
+            step: *step,
+            ..QUIET
+        };
+        all_decode(rt, alloc, rows, &outside)?;
+    }
+    Ok(())
+}
+
+/// How many bytes a call moves at most: less than a line, just the line of a frame, and a whole file.
+const STEPS: &[usize] = &[1, 7, 46, 64, 4_096];
+
+/// Each bench is decoded to its text, however few bytes a call moves.
+fn each_decodes(rt: &impl Abort, alloc: Global, rows: &[Decoded]) -> Result<(), AllocError> {
+    all_decode_by(rt, alloc, rows, STEPS)
 }
 
 /// The words that decode the bench file of all cases.

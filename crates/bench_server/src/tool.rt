@@ -15,7 +15,7 @@ ghost use Rattle.std.specs.Prelude.{Some};
 use crate::Status;
 use crate::checking::check;
 use crate::decoding::decode;
-use crate::refused::{decode_status, plan_status};
+use crate::ended::{Ended, status_of};
 use crate::report::report;
 use bench_file::limits_of_a_plan;
 use bench_inputs::read_bench;
@@ -59,9 +59,10 @@ fn decode_bench<B: Library, K: Sink, E: Sink>(
     limits_of_a_plan();
     let plan = match read_bench(alloc, library, bench) {
         Ok(plan) => plan,
-        Err(refused) => return report(alloc, err, &[], plan_status(refused)),
+        Err(refused) => return report(alloc, err, &[], status_of(Ended::Plan(refused))),
     };
-    let status = decode_status(decode(alloc, &plan, library, out, logs));
+    let end = decode(alloc, &plan, library, out, logs);
+    let status = status_of(Ended::Decode(end));
     report(alloc, err, plan.buses.items(), status)
 }
 
@@ -95,7 +96,7 @@ fn run<B: Library, K: Sink, E: Sink>(
             let status = check(alloc, library, file, out);
             report(alloc, err, &[], status)
         }
-        None => report(alloc, err, &[], Status::Usage),
+        None => report(alloc, err, &[], status_of(Ended::Usage)),
     }
 }
 

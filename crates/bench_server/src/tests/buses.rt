@@ -43,6 +43,25 @@ const GROUPS: &[Decoded] = &[
             J1939,
             (
                 "j.log",
+                b"(1.000000) can0 18ECFF00#200A0002FFCAFE00\n\
+                  (1.050000) can0 18EBFF00#0111223344556677\n\
+                  (1.050000) can0 18EBFF00#0111223344556677\n\
+                  (1.100000) can0 18EBFF00#028899AAFFFFFFFF\n",
+            ),
+        ],
+        b"start J 0\n\
+          u J 0 0 1000000 18ECFF00#200A0002FFCAFE00\n\
+          u J 1 0 1050000 18EBFF00#0111223344556677\n\
+          u J 2 0 1050000 18EBFF00#0111223344556677\n\
+          u J 3 0 1100000 18EBFF00#028899AAFFFFFFFF\n\
+          t J 4 0 1100000 65226 0 255 112233445566778899AA -\n\
+          end J 5\n",
+    ),
+    (
+        &[
+            J1939,
+            (
+                "j.log",
                 b"(1.000000) can0 18ECFF00#200A0002FFCAFE00\n(1.050000) can0 18EBFF00#028899AAFFFFFFFF\n",
             ),
         ],
@@ -148,7 +167,7 @@ pub(super) const CLUSTER: File<'static> = ("l.ldf", DESCRIPTION);
 
 const ENGINE_LOG: File<'static> = ("a.log", b"(0000000001.000000) can0 100#A00FEC01\n");
 
-const CLUSTER_LOG: File<'static> = ("l.log", b"(0000000001.000000) lin0 010#6400\n");
+pub(super) const CLUSTER_LOG: File<'static> = ("l.log", b"(0000000001.000000) lin0 010#6400\n");
 
 const BENCHES: &[Decoded] = &[
     (

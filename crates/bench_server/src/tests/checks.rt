@@ -49,6 +49,13 @@ const CHECKS: &[Checked] = &[
     ),
     (
         &["check", "a.dbc"],
+        &[("a.dbc", b"VERSION")],
+        4,
+        b"",
+        b"refused statement 0\n",
+    ),
+    (
+        &["check", "a.dbc"],
         &[("a.dbc", b"VERSION \"")],
         4,
         b"",

@@ -1,15 +1,20 @@
 //! Runs in which the library, a log or a sink fails at a stated call.
 
+use super::buses::{CLUSTER, CLUSTER_LOG};
 use super::*;
 
-/// A bench of two buses.
+/// A bench of two buses, one with a DBC and one with an LDF.
 const TWO: Case<'static> = Case {
     words: DECODE,
     files: &[
-        ("bench.txt", b"bus A can a.log a.dbc\nbus B can b.log\n"),
+        (
+            "bench.txt",
+            b"bus A can a.log a.dbc\nbus L lin l.log l.ldf\n",
+        ),
         SPEED,
+        CLUSTER,
         FRAME,
-        ("b.log", b"(1.000000) can0 101#A0\n"),
+        CLUSTER_LOG,
     ],
 };
 
@@ -17,9 +22,10 @@ const TWO_TEXT: &[u8] = b"start A 0\n\
       m A 0 0 1000000 Engine\n\
       s Speed 4000 8000 \"rpm\"\n\
       end A 1\n\
-      start B 0\n\
-      u B 0 0 1000000 101#A0\n\
-      end B 1\n";
+      start L 0\n\
+      m L 0 0 1000000 Status\n\
+      s Temp 100 10 \"degC\"\n\
+      end L 1\n";
 
 /// A call that fails, counted from 0, and how the run then ends: status, output, error line, logs handed back.
 type Failing = (u64, u8, &'static [u8], &'static [u8], usize);
@@ -34,18 +40,28 @@ fn end_of(row: &Failing) -> End<'static> {
     }
 }
 
-/// The calls of the library: begin and twice more for the bench file, begin and three times more for the database, a
-/// log, another, and one that is not made.
+/// The calls of the library: begin and two reads for the bench file, begin and three reads for the DBC, begin and eight
+/// reads for the LDF, each up to the read that says the end; a log, another, and one that is not made.
 const LIBRARY_CALLS: &[Failing] = &[
     (0, 5, b"", b"open\n", 0),
     (1, 6, b"", b"read\n", 0),
     (2, 6, b"", b"read\n", 0),
     (3, 5, b"", b"open\n", 0),
     (4, 6, b"", b"read\n", 0),
+    (5, 6, b"", b"read\n", 0),
     (6, 6, b"", b"read\n", 0),
     (7, 5, b"", b"open\n", 0),
-    (8, 5, b"", b"open\n", 1),
-    (9, 0, TWO_TEXT, b"", 2),
+    (8, 6, b"", b"read\n", 0),
+    (9, 6, b"", b"read\n", 0),
+    (10, 6, b"", b"read\n", 0),
+    (11, 6, b"", b"read\n", 0),
+    (12, 6, b"", b"read\n", 0),
+    (13, 6, b"", b"read\n", 0),
+    (14, 6, b"", b"read\n", 0),
+    (15, 6, b"", b"read\n", 0),
+    (16, 5, b"", b"open\n", 0),
+    (17, 5, b"", b"open\n", 1),
+    (18, 0, TWO_TEXT, b"", 2),
 ];
 
 fn fail_in_the_library(
@@ -78,8 +94,9 @@ const SECOND_FRAME: &[u8] = b"start A 0\n\
       m A 0 0 1000000 Engine\n\
       s Speed 4000 8000 \"rpm\"\n\
       end A 1\n\
-      start B 0\n\
-      u B 0 0 1000000 101#A0\n";
+      start L 0\n\
+      m L 0 0 1000000 Status\n\
+      s Temp 100 10 \"degC\"\n";
 
 /// The reads of the first log: its line, and its end.
 const FIRST_READS: &[Failing] = &[
@@ -90,8 +107,8 @@ const FIRST_READS: &[Failing] = &[
 
 /// The reads of the second log.
 const SECOND_READS: &[Failing] = &[
-    (0, 6, SPEED_TEXT, b"read B\n", 2),
-    (1, 6, SECOND_FRAME, b"read B\n", 2),
+    (0, 6, SPEED_TEXT, b"read L\n", 2),
+    (1, 6, SECOND_FRAME, b"read L\n", 2),
     (2, 0, TWO_TEXT, b"", 2),
 ];
 
@@ -114,7 +131,7 @@ fn fail_in_a_log(
 #[test]
 fn a_log_that_fails_ends_the_text_behind_its_lines(rt: HostRuntime) -> Result<(), Fail> {
     fail_in_a_log(&rt, rt.alloc(), "a.log", FIRST_READS)?;
-    fail_in_a_log(&rt, rt.alloc(), "b.log", SECOND_READS)?;
+    fail_in_a_log(&rt, rt.alloc(), "l.log", SECOND_READS)?;
     Ok(())
 }
 
@@ -124,25 +141,25 @@ fn fail_behind(rt: &impl Abort, alloc: Global, text: &'static [u8]) -> Result<()
         code: 7,
         out: text,
         err: b"write\n",
-        logs: 1,
+        logs: 2,
     };
     let failing = Outside {
         step: 1,
         writes: &[text.len() as u64],
         ..QUIET
     };
-    ends(rt, alloc, &CLASSIC, &failing, &end)?;
+    ends(rt, alloc, &TWO, &failing, &end)?;
     let full = Outside {
         room: text.len(),
         ..QUIET
     };
-    ends(rt, alloc, &CLASSIC, &full, &end)
+    ends(rt, alloc, &TWO, &full, &end)
 }
 
 #[test]
 fn each_write_fails_in_turn(rt: HostRuntime) -> Result<(), Fail> {
-    for count in 0..SPEED_TEXT.len() {
-        fail_behind(&rt, rt.alloc(), &SPEED_TEXT[..count])?;
+    for count in 0..TWO_TEXT.len() {
+        fail_behind(&rt, rt.alloc(), &TWO_TEXT[..count])?;
     }
     Ok(())
 }
@@ -200,8 +217,14 @@ const CHECK: Case<'static> = Case {
     files: &[SPEED],
 };
 
-/// The first calls of a check: begin, and a read.
-const CHECK_CALLS: &[Failing] = &[(0, 5, b"", b"open\n", 0), (1, 6, b"", b"read\n", 0)];
+/// The calls of a check: begin, three reads, and one that is not made.
+const CHECK_CALLS: &[Failing] = &[
+    (0, 5, b"", b"open\n", 0),
+    (1, 6, b"", b"read\n", 0),
+    (2, 6, b"", b"read\n", 0),
+    (3, 6, b"", b"read\n", 0),
+    (4, 0, b"ok 1 1\n", b"", 0),
+];
 
 #[test]
 fn a_check_that_fails_names_its_cause(rt: HostRuntime) -> Result<(), Fail> {

@@ -90,6 +90,39 @@ fn raw_values_of_both_orders_are_scaled(rt: HostRuntime) -> Result<(), Fail> {
     Ok(())
 }
 
+/// Bench files with numbers of a server.
+const NUMBERS: &[Decoded] = &[
+    (
+        &[
+            ("bench.txt", b"bus A can a.log a.dbc\nwords 30\n"),
+            SPEED,
+            FRAME,
+        ],
+        SPEED_TEXT,
+    ),
+    (
+        &[
+            ("bench.txt", b"bus A can a.log a.dbc\nwords 31\n"),
+            SPEED,
+            FRAME,
+        ],
+        SPEED_TEXT,
+    ),
+    (
+        &[
+            ("bench.txt", b"bus A can a.log\nversions 0\nwords 65\n"),
+            FRAME,
+        ],
+        b"start A 0\nu A 0 0 1000000 100#A00F000000000000\nend A 1\n",
+    ),
+];
+
+#[test]
+fn numbers_of_a_server_have_no_effect(rt: HostRuntime) -> Result<(), Fail> {
+    each_decodes(&rt, rt.alloc(), NUMBERS)?;
+    Ok(())
+}
+
 /// Two multiplexors, one under the other.
 const MUX: File<'static> = (
     "a.dbc",

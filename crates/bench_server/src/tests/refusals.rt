@@ -12,6 +12,8 @@ const NO_COMMANDS: &[&[&str]] = &[
     &["decode", "a", "b"],
     &["decode", "-x"],
     &["help"],
+    &["mill", "0"],
+    &["mill", "1000001"],
     &["--", "decode", "bench.txt"],
     &["serve", "bench.txt", "desk", "place"],
 ];
@@ -172,6 +174,29 @@ const DATABASES: &[Refused] = &[
 #[test]
 fn a_refused_database_is_named_with_its_bus(rt: HostRuntime) -> Result<(), Fail> {
     each_is_refused(&rt, rt.alloc(), DATABASES)?;
+    Ok(())
+}
+
+/// A database of one byte more than it may have.
+fn long_files(alloc: Global) -> Result<Vec<MemFile>, AllocError> {
+    let mut files = files_of(alloc, &[CAN], &QUIET)?;
+    files.push(MemFile {
+        name: String::from_str(alloc, "a.dbc")?,
+        content: vec![in alloc; b'\n'; 16_777_217]?,
+        step: 4_096,
+        fails: Vec::new(alloc),
+    })?;
+    Ok(files)
+}
+
+#[test]
+fn a_database_of_too_many_bytes_is_long(rt: HostRuntime) -> Result<(), Fail> {
+    let files = long_files(rt.alloc())?;
+    let left = run_over(rt.alloc(), DECODE, &files, &QUIET)?;
+    assert_eq!(rt; left.status.code(), 4);
+    assert_eq!(rt; left.out.len(), 0);
+    assert_eq!(rt; left.err.as_slice(), b"refused A long\n".as_slice());
+    assert_eq!(rt; left.logs, 0);
     Ok(())
 }
 

@@ -5,7 +5,7 @@ use Rattle.bench_server.proofs.checking.check.Goals as goal
 
 pub returns-in-Ok-clause-ends : goal.returns-in-Ok-clause-ends
 returns-in-Ok-clause-ends g c =
-    rw c.written_status.ensures
+    rw c.status_of.ensures
     (written_end c.args.name.now _ c.in-Ok.valid c.database.result.now c.write_counts.result c.database.ensures.same c.in-Ok.ensures c.write_counts.ensures refl)
 
 pub returns-in-Ok-clause-keeps : goal.returns-in-Ok-clause-keeps
@@ -13,7 +13,7 @@ returns-in-Ok-clause-keeps g c =
     record { files = c.in-Ok.ensures.files; opens = c.in-Ok.ensures.opens; reads = c.in-Ok.ensures.reads; writes = c.write_counts.ensures.front.later }
 
 pub returns-in-Err-clause-ends : goal.returns-in-Err-clause-ends
-returns-in-Err-clause-ends g c = rw c.check_status.ensures (refused_end c.args.name.now _ c.in-Err.refused c.in-Err.ensures refl refl)
+returns-in-Err-clause-ends g c = rw c.status_of-in-Err.ensures (refused_end c.args.name.now _ c.in-Err.refused c.in-Err.ensures refl refl)
 
 pub returns-in-Err-clause-keeps : goal.returns-in-Err-clause-keeps
 returns-in-Err-clause-keeps g c =
