@@ -18,3 +18,4 @@ pub mod TakingLaws
 pub mod PrefixLaws
 pub mod CountLaws
 pub mod MetLaws
+pub mod LeadLaws

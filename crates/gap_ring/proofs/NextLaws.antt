@@ -1,9 +1,10 @@
 -- The item that waits longest is of the ring's bus, and a record's number is above those of the records taken before.
 use Rattle.std.proofs.Common.{◌≡◌, ℕ, ◌<◌, ◌==◌, List, [], ◌∷◌, ◌++◌, length, All, AllPairs}
-use Rattle.std.proofs.Common.{Option, Some, None, refl, sym, ap, ◌∙◌, subst, arith, append-nil, append_assoc}
+use Rattle.std.proofs.Common.{Option, Some, None, refl, sym, ap, ◌∙◌, subst, arith, append-nil, append_assoc, ⊎_elim}
 use Rattle.std.proofs.lemmas.Bool.{cond_both}
 use Rattle.std.proofs.lemmas.List.Concat.{flat_map-append}
-use Rattle.std.proofs.lemmas.List.Elements.{All-nil, All-cons, All-head, All-tail, All-append, All-weaker}
+use Rattle.std.proofs.lemmas.List.Elements.{All-nil, All-cons, All-head, All-append, All-weaker}
+use Rattle.bench_model.specs.declared.reading.Reading.{Reading}
 use Rattle.bench_model.specs.declared.reading.Missed.{Missed}
 use Rattle.bench_model.specs.declared.reading.Item.{Item}
 use Rattle.bench_model.specs.declared.reading.Item.TheVariants as item
@@ -22,17 +23,21 @@ gap_of_bus : (bus b : ℕ) (gap : Option Missed) → b ≡ bus → All (IsOfBus 
 gap_of_bus bus b None is = All-nil (IsOfBus bus)
 gap_of_bus bus b (Some m) is = All-cons (IsOfBus bus) (item.Gap b m) [] is (All-nil (IsOfBus bus))
 
+lead_of_bus : (bus : ℕ) (before : List Offered) (reading : Reading) (attach : ℕ) → reading.bus ≡ bus → All (IsOfBus bus) (lead before reading attach)
+lead_of_bus bus before reading attach is =
+    let P : Item → Type 0 = IsOfBus bus in
+    let gap : List Item = gap_item reading.bus (gap_of (trailing before)) in
+    let start : Item = item.Start reading.bus reading.number attach in
+    cond_both (attach == turn_of before) gap (start ∷ []) (All P)
+    (λ _. gap_of_bus bus reading.bus (gap_of (trailing before)) is)
+    (λ _. All-cons P start [] is (All-nil P))
+
 put_by_of_bus : (bus : ℕ) (before : List Offered) (o : Offered) → o.reading.bus ≡ bus → All (IsOfBus bus) (put_by before o)
 put_by_of_bus bus before o is =
     let P : Item → Type 0 = IsOfBus bus in
-    let gap : List Item = gap_item o.reading.bus (gap_of (trailing before)) in
-    let start : List Item = item.Start o.reading.bus o.reading.number o.attach ∷ [] in
-    let led : All P (lead before o.reading o.attach) = cond_both (o.attach == turn_of before) gap start (All P)
-    (λ _. gap_of_bus bus o.reading.bus (gap_of (trailing before)) is)
-    (λ _. All-cons P (item.Start o.reading.bus o.reading.number o.attach) [] is (All-nil P)) in
     let one : All P (item.Reading o.reading ∷ []) = All-cons P (item.Reading o.reading) [] is (All-nil P) in
     cond_both (is_put o) (lead before o.reading o.attach ++ item.Reading o.reading ∷ []) [] (All P)
-    (λ _. All-append P (lead before o.reading o.attach) (item.Reading o.reading ∷ []) led one)
+    (λ _. All-append P (lead before o.reading o.attach) (item.Reading o.reading ∷ []) (lead_of_bus bus before o.reading o.attach is) one)
     (λ _. All-nil P)
 
 put_of_bus : (bus capacity : ℕ) (before os : List Offered) → AreOffersAfter bus capacity before os → All (IsOfBus bus) (put_after before os)
@@ -40,18 +45,16 @@ put_of_bus bus capacity before [] h = All-nil (IsOfBus bus)
 put_of_bus bus capacity before (o ∷ os) h =
     All-append (IsOfBus bus) (put_by before o) (put_after (before ++ o ∷ []) os) (put_by_of_bus bus before o h.0.bus_is) (put_of_bus bus capacity (before ++ o ∷ []) os h.1)
 
-lead_of_bus : (bus : ℕ) (x : Item) → IsLead bus x → IsOfBus bus x
-lead_of_bus bus (item.Start b number turn) h = h
-lead_of_bus bus (item.Reading r) h = absurd h
-lead_of_bus bus (item.Gap b m) h = h
-lead_of_bus bus (item.End b number) h = h
+gap_reads : (bus : ℕ) (gap : Option Missed) → numbers_read (gap_item bus gap) ≡ []
+gap_reads bus None = refl
+gap_reads bus (Some m) = refl
 
-lead_reads : (bus : ℕ) (xs : List Item) → All (IsLead bus) xs → numbers_read xs ≡ []
-lead_reads bus [] h = refl
-lead_reads bus (item.Start b number turn ∷ xs) h = lead_reads bus xs (All-tail (IsLead bus) (item.Start b number turn) xs h)
-lead_reads bus (item.Reading r ∷ xs) h = absurd (All-head (IsLead bus) (item.Reading r) xs h)
-lead_reads bus (item.Gap b m ∷ xs) h = lead_reads bus xs (All-tail (IsLead bus) (item.Gap b m) xs h)
-lead_reads bus (item.End b number ∷ xs) h = lead_reads bus xs (All-tail (IsLead bus) (item.End b number) xs h)
+lead_reads : (before : List Offered) (reading : Reading) (attach : ℕ) → numbers_read (lead before reading attach) ≡ []
+lead_reads before reading attach =
+    cond_both (attach == turn_of before) (gap_item reading.bus (gap_of (trailing before))) (item.Start reading.bus reading.number attach ∷ [])
+    (λ (l : List Item). numbers_read l ≡ [])
+    (λ _. gap_reads reading.bus (gap_of (trailing before)))
+    (λ _. refl)
 
 number_low : (x : Item) → All (λ n. n < most_offers) (numbers_read (x ∷ [])) → record_number x < most_offers
 number_low (item.Start bus number turn) h = omega arith
@@ -60,17 +63,30 @@ number_low (item.Gap bus m) h = omega arith
 number_low (item.End bus number) h = omega arith
 
 module _ (bus capacity : ℕ) (p : Putting) (h : PutRule bus capacity p) where
+  led_of_bus : All (IsOfBus bus) p.lead
+  led_of_bus =
+      ⊎_elim
+      (λ (e : p.lead ≡ []). subst (All (IsOfBus bus)) (sym e) (All-nil (IsOfBus bus)))
+      (λ (l : IsLead bus p.offers p.attach p.lead). subst (All (IsOfBus bus)) (sym l.lead_is) (lead_of_bus bus p.offers l.reading p.attach l.bus_is))
+      h.lead_is
+
+  led_reads : numbers_read p.lead ≡ []
+  led_reads =
+      ⊎_elim
+      (λ (e : p.lead ≡ []). ap numbers_read e)
+      (λ (l : IsLead bus p.offers p.attach p.lead). ap numbers_read l.lead_is ∙ lead_reads p.offers l.reading p.attach)
+      h.lead_is
+
   all_of_bus : All (IsOfBus bus) p.put
   all_of_bus =
       subst (All (IsOfBus bus)) (sym h.put_is)
-      (All-append (IsOfBus bus) (put_of p.offers) p.lead (put_of_bus bus capacity [] p.offers h.offered)
-      (All-weaker (IsLead bus) (IsOfBus bus) (lead_of_bus bus) p.lead h.lead_is))
+      (All-append (IsOfBus bus) (put_of p.offers) p.lead (put_of_bus bus capacity [] p.offers h.offered) led_of_bus)
 
   read_is : numbers_read p.put ≡ numbers_read (put_of p.offers)
   read_is =
       ap numbers_read h.put_is
       ∙ (flat_map-append number_read (put_of p.offers) p.lead
-      ∙ (ap (λ ns. numbers_read (put_of p.offers) ++ ns) (lead_reads bus p.lead h.lead_is)
+      ∙ (ap (λ ns. numbers_read (put_of p.offers) ++ ns) led_reads
       ∙ append-nil (numbers_read (put_of p.offers))))
 
   all_rise : AllPairs (λ a b. a < b) (numbers_read p.put) × All (λ n. n < most_offers) (numbers_read p.put)
@@ -95,6 +111,5 @@ module _ (bus capacity : ℕ) (p : Putting) (h : PutRule bus capacity p) where
       record {
         of_bus = subst (λ b. IsOfBus b x) (sym of_it) (All-head (IsOfBus bus) x more (all_right (IsOfBus bus) old (x ∷ more) (subst (All (IsOfBus bus)) split all_of_bus)));
         rises = all_pairs_left (λ a b. a < b) (numbers_read (old ++ x ∷ [])) (numbers_read more) rise;
-        bounded = bounded;
         low = number_low x bounded;
       }

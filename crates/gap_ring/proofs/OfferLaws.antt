@@ -24,8 +24,6 @@ use Rattle.gap_ring.specs.Offers.{missed, longer, missed_count, last_of, gap_of,
 use Rattle.gap_ring.specs.Rule.{head_word, tail_word, attach_word, IsLead}
 use Rattle.gap_ring.specs.Steps.{entry_of, did_put, with_attach, with_offer, with_slot, with_head, is_short, slot_taken, attach_seen, head_seen, lead_put, record_put}
 use Rattle.gap_ring.specs.May.{MayOffer, MayItems, MayLead, MayReach, MayRecord}
-use Rattle.gap_ring.specs.Turns.{IsStartBy}
-use Rattle.gap_ring.proofs.PlaceLaws.{head_same}
 use Rattle.gap_ring.specs.Ends.{PutterRests, did_reach}
 use Rattle.gap_ring.specs.Offering.{OfferMade, AreStepsBy, ItemsPut, one_put, two_put}
 use Rattle.gap_ring.proofs.OneMoreLaws.{turn-snoc, since-snoc, put-snoc}
@@ -251,21 +249,6 @@ module _ (bus slots a : ℕ) (c : Count) (reading : Reading) (v : View) (rests :
         },
       )
 
--- what goes before a record is a Start of the turn or a gap, of the bus
-lead_item : (os : List Offered) (reading : Reading) (bus attach : ℕ) (x : Item) → reading.bus ≡ bus → x ∷ [] ≡ lead os reading attach → IsLead bus x × IsStartBy attach x
-lead_item os reading bus attach x its is =
-    let P : List Item → Type 0 = λ l. x ∷ [] ≡ l → IsLead bus x × IsStartBy attach x in
-    let Q : Item → Type 0 = λ y. IsLead bus y × IsStartBy attach y in
-    let start : Item = item.Start reading.bus reading.number attach in
-    cond_both (attach == turn_of os) (gap_item reading.bus (gap_of (trailing os))) (start ∷ []) P
-    (λ _. of_gap (gap_of (trailing os)))
-    (λ _ e. subst Q (sym (head_same x start [] [] e)) (its, omega arith))
-    is
-  where
-    of_gap : (gap : Option Missed) → x ∷ [] ≡ gap_item reading.bus gap → IsLead bus x × IsStartBy attach x
-    of_gap None e = absurd (let n : 1 ≡ 0 = ap length e in omega arith)
-    of_gap (Some m) e = subst (λ (y : Item). IsLead bus y × IsStartBy attach y) (sym (head_same x (item.Gap reading.bus m) [] [] e)) (its, tt)
-
 module _ (bus slots : ℕ) (reading : Reading) (v : View) where
   pub may_one : (n : ℕ) → MayItems bus slots reading None v → n ≡ length v.putting.put + 1 → MayRecord bus slots reading n v
   may_one n h count = record {
@@ -285,8 +268,8 @@ module _ (bus slots : ℕ) (reading : Reading) (v : View) where
   module _ (x : Item) (h : MayItems bus slots reading (Some x) v) where
     pub may_lead : (n : ℕ) → n ≡ length v.putting.put + 1 → MayLead bus x n v
     may_lead n count =
-        let item = lead_item v.putting.offers reading bus v.putting.attach x h.its h.led_is in
-        record { may = h.may; open_ = h.open_; mine = h.mine; no_lead = h.no_lead; is_lead = item.0; in_time = item.1; count = count }
+        let led : IsLead bus v.putting.offers v.putting.attach (x ∷ []) = record { reading = reading; bus_is = h.its; number_is = h.number; attached = h.odd; lead_is = h.led_is } in
+        record { may = h.may; open_ = h.open_; mine = h.mine; no_lead = h.no_lead; is_lead = led; count = count }
 
     pub may_reach : (n : ℕ) → MayReach slots (record v { putting = lead_put x n v.putting })
     may_reach n =

@@ -1,16 +1,15 @@
 -- Each load of the putter, and each store of the tail, keeps the rule.
-use Rattle.std.proofs.Common.{◌≡◌, ℕ, ◌+◌, ◌%◌, ◌<◌, ◌≤◌, ◌==◌, true, false, cond, true≢false, List, [], ◌∷◌, ◌++◌, length, set}
-use Rattle.std.proofs.Common.{slice_index, All, Option, Some, None, refl, sym, ap, ◌∙◌, subst, arith, inl, ⊎_elim, length-set, length-append}
+use Rattle.std.proofs.Common.{◌≡◌, ℕ, ◌+◌, ◌%◌, ◌<◌, ◌≤◌, ◌==◌, true, false, cond, true≢false, List, [], ◌∷◌, ◌++◌, length, set, slice_index, All, Option, Some, None, refl, sym, ap, ◌∙◌, subst, arith, inl, inr, ⊎_elim, length-set, length-append, append-nil, append_assoc, ltb-true, ltb-false, eqb-true}
 use Rattle.std.proofs.lemmas.List.{length-map}
 use Rattle.std.proofs.lemmas.Option.{none-some, same_Some}
-use Rattle.std.proofs.Common.{append-nil, append_assoc, ltb-true, ltb-false, eqb-true}
 use Rattle.std.proofs.lemmas.Bool.{cases_Bool, cond-true, cond-false, cond_both}
-use Rattle.std.proofs.lemmas.List.Elements.{All-nil, All-cons, All-push, All-weaker}
+use Rattle.std.proofs.lemmas.List.Elements.{All-push, All-weaker}
 use mathlib.Core.Option.{none, some}
 use mathlib.Core.Option as maybe
 use lib.ListN.{get_elem?}
 use Rattle.atomic_table.specs.Table.{State, Act, step, keeps, takes, gives, put_back, rest, stepped, carried_after, homes_after, Valid, Allows}
 use Rattle.bench_model.specs.declared.reading.Reading.{Reading}
+use Rattle.bench_model.specs.declared.reading.Missed.{Missed}
 use Rattle.bench_model.specs.declared.reading.Item.{Item}
 use Rattle.bench_model.specs.declared.reading.Item.TheVariants as item
 use Rattle.gap_ring.specs.declared.entries.Outcome.{Outcome}
@@ -21,13 +20,11 @@ use Rattle.gap_ring.specs.declared.view.Did.TheVariants as did
 use Rattle.gap_ring.specs.declared.view.Putting.{Putting}
 use Rattle.gap_ring.specs.declared.view.Taking.{Taking}
 use Rattle.gap_ring.specs.declared.view.View.{View}
-use Rattle.gap_ring.specs.Offers.{IsDetached, IsHeadOf, IsHeadBy, Ends, IsOffered, slots_needed, slots_free, put_by, put_of}
+use Rattle.gap_ring.specs.Offers.{IsDetached, IsHeadOf, IsHeadBy, Ends, IsOffered, slots_needed, slots_free, turn_of, trailing, gap_of, gap_item, lead, put_by, put_of}
 use Rattle.gap_ring.specs.Turns.{items_taken, IsStartBy}
-use Rattle.gap_ring.specs.Rule.{head_word, tail_word, attach_word, end_of}
-use Rattle.gap_ring.specs.Rule.{most_offers, PutRule, TakeRule, Slots, EndRule, KeptBy, Kept, IsLead}
-use Rattle.gap_ring.specs.Steps.{Sat, PutterLoads, PutterStores, item_in, record_in, entry_of, did_put, with_attach, with_offer, with_slot, with_head, is_short, slot_taken}
-use Rattle.gap_ring.specs.Steps.{attach_seen, saw_attach, head_seen, saw_head, reached, lead_put, put_lead, record_put, put_record}
-use Rattle.gap_ring.proofs.PlaceLaws.{get_longer}
+use Rattle.gap_ring.specs.Rule.{head_word, tail_word, attach_word, end_of, most_offers, PutRule, TakeRule, Slots, EndRule, KeptBy, Kept}
+use Rattle.gap_ring.specs.Steps.{Sat, PutterLoads, PutterStores, item_in, record_in, entry_of, did_put, with_attach, with_offer, with_slot, with_head, is_short, slot_taken, attach_seen, saw_attach, head_seen, saw_head, reached, lead_put, put_lead, record_put, put_record}
+use Rattle.gap_ring.proofs.PlaceLaws.{get_longer, head_same}
 use Rattle.gap_ring.specs.May.{MayOffer, MayPut, MayReach, MayLead, MayRecord}
 use Rattle.gap_ring.proofs.OneMoreLaws.{put-snoc, offers-snoc}
 use Rattle.gap_ring.proofs.SeatLaws.{seats_after_put}
@@ -160,14 +157,14 @@ module _ (bus : ℕ) (s : Board) (id : ℕ) (v : View) (p' : Putting) (t : Takin
 
 -- what was offered and put, after each step
 
-loaded_attach : (bus capacity n : ℕ) (p : Putting) → PutRule bus capacity p → p.attach ≤ n → PutRule bus capacity (with_attach p n)
-loaded_attach bus capacity n p h higher =
+loaded_attach : (bus capacity n : ℕ) (p : Putting) → PutRule bus capacity p → p.lead ≡ [] → p.attach ≤ n → PutRule bus capacity (with_attach p n)
+loaded_attach bus capacity n p h none_led higher =
     let low = h.attach_low in
     record {
       offered = h.offered;
       few = h.few;
       put_is = h.put_is;
-      lead_is = h.lead_is;
+      lead_is = inl none_led;
       attach_low = omega arith;
       attach_high = All-weaker (λ (o : Offered). o.attach ≤ p.attach) (λ o. o.attach ≤ n) (λ o below. omega arith) p.offers h.attach_high;
       head_high = h.head_high;
@@ -195,15 +192,15 @@ head_of_some : (n : ℕ) (o : Offered) → o.head ≡ Some n → IsHeadBy n o
 head_of_some n o some_is k e = let same : n ≡ k = same_Some n k (sym some_is ∙ e) in omega arith
 
 -- an offer that puts nothing
-offered_unput : (bus capacity : ℕ) (p : Putting) (o : Offered) → PutRule bus capacity p → IsOffered bus capacity p.offers o → put_by p.offers o ≡ [] → o.attach ≤ p.attach → IsHeadBy p.head o → length p.offers < most_offers
+offered_unput : (bus capacity : ℕ) (p : Putting) (o : Offered) → PutRule bus capacity p → p.lead ≡ [] → IsOffered bus capacity p.offers o → put_by p.offers o ≡ [] → o.attach ≤ p.attach → IsHeadBy p.head o → length p.offers < most_offers
     → PutRule bus capacity (record p { offers = p.offers ++ o ∷ [] })
-offered_unput bus capacity p o h is nothing low head room = record {
+offered_unput bus capacity p o h none_led is nothing low head room = record {
   offered = offers-snoc bus capacity [] p.offers o h.offered is;
   few = omega (arith, length-append p.offers (o ∷ []));
   put_is =
       h.put_is
       ∙ ap (λ xs. xs ++ p.lead) (sym (put-snoc p.offers o ∙ (ap (λ xs. put_of p.offers ++ xs) nothing ∙ append-nil (put_of p.offers))));
-  lead_is = h.lead_is;
+  lead_is = inl none_led;
   attach_low = h.attach_low;
   attach_high = All-push (λ (q : Offered). q.attach ≤ p.attach) p.offers o h.attach_high low;
   head_high = All-push (IsHeadBy p.head) p.offers o h.head_high head;
@@ -233,14 +230,14 @@ sees_attach bus slots id me reading may s kept deep at below =
     let n : ℕ = slice_index s.words attach_word in
     let is : n ≡ t.attach = r.words.attach_is in
     let seen = r.take.attach_seen in
-    let rule : PutRule bus (length s.homes) (with_attach p n) = loaded_attach bus (length s.homes) n p r.put (omega arith) in
+    let rule : PutRule bus (length s.homes) (with_attach p n) = loaded_attach bus (length s.homes) n p r.put may.no_lead (omega arith) in
     let low : n ≤ t.attach = omega arith in
     let away : Putting = with_offer (with_attach p n) reading None outcome.Away in
     let P : Putting → Type 0 = λ q. KeptBy bus (record { words = set s.words attach_word n; homes = s.homes; views = set s.views id (record me.0 { putting = did_put q (did.Loaded attach_word n) }) }) (did_put q (did.Loaded attach_word n)) t in
     let at_even = λ (even : (n % 2 == 0) ≡ true).
     let detached : IsDetached n = eqb-true (n % 2) 0 even in
     let entry = entry_is bus (length s.homes) (with_attach p n) reading None outcome.Away rule may.its may.number (detached, refl) in
-    let full : PutRule bus (length s.homes) away = offered_unput bus (length s.homes) (with_attach p n) (entry_of (with_attach p n) reading None outcome.Away) rule entry refl (omega arith) (head_of_none p.head (entry_of (with_attach p n) reading None outcome.Away) refl) may.room in
+    let full : PutRule bus (length s.homes) away = offered_unput bus (length s.homes) (with_attach p n) (entry_of (with_attach p n) reading None outcome.Away) rule may.no_lead entry refl (omega arith) (head_of_none p.head (entry_of (with_attach p n) reading None outcome.Away) refl) may.room in
     quiet bus s id me.0 (did_put away (did.Loaded attach_word n)) t r at may.may may.open_ may.open_ attach_word refl refl refl low r.take.head_seen
     record { offered = full.offered; few = full.few; put_is = full.put_is; lead_is = full.lead_is; attach_low = full.attach_low; attach_high = full.attach_high; head_high = full.head_high } in
     let at_odd = λ (odd : (n % 2 == 0) ≡ false).
@@ -309,7 +306,7 @@ module _ (bus slots id : ℕ) (me : Sat) (reading : Reading) (may : MayPut bus r
       (subst (λ c. Ends c q.attach (Some found) (length (put_of q.offers)) (slots_needed q.offers reading q.attach) outcome.Refused) (sym deep) ends) in
       let low : found ≤ length others.taken = omega (arith, found_is) in
       let o : Offered = entry_of q reading (Some found) outcome.Refused in
-      let full = offered_unput bus (length s.homes) (with_head q found) o seen_rule entry refl (omega arith) (head_of_some found o refl) may.offer.room in
+      let full = offered_unput bus (length s.homes) (with_head q found) o seen_rule may.offer.no_lead entry refl (omega arith) (head_of_some found o refl) may.offer.room in
       record {
         p = refusal;
         t = others;
@@ -393,6 +390,20 @@ start_by_later a b (item.Reading r) low h = tt
 start_by_later a b (item.Gap bus m) low h = tt
 start_by_later a b (item.End bus number) low h = tt
 
+-- a Start that goes before a record is of no later turn than the attach word
+lead_in_time : (os : List Offered) (reading : Reading) (attach : ℕ) (x : Item) → x ∷ [] ≡ lead os reading attach → IsStartBy attach x
+lead_in_time os reading attach x is =
+    let P : List Item → Type 0 = λ l. x ∷ [] ≡ l → IsStartBy attach x in
+    let start : Item = item.Start reading.bus reading.number attach in
+    cond_both (attach == turn_of os) (gap_item reading.bus (gap_of (trailing os))) (start ∷ []) P
+    (λ _. of_gap (gap_of (trailing os)))
+    (λ _ e. subst (IsStartBy attach) (sym (head_same x start [] [] e)) (omega arith))
+    is
+  where
+    of_gap : (gap : Option Missed) → x ∷ [] ≡ gap_item reading.bus gap → IsStartBy attach x
+    of_gap None e = absurd (let n : 1 ≡ 0 = ap length e in omega arith)
+    of_gap (Some m) e = subst (IsStartBy attach) (sym (head_same x (item.Gap reading.bus m) [] [] e)) tt
+
 -- the slots after one is given back
 given_back : (homes : List (maybe.Option (Option Item))) (c : List (ℕ × Option Item)) (k : ℕ) (y : Option Item) → c ≡ (k, y) ∷ [] → homes_after homes c gives ≡ set homes k (some y)
 given_back homes c k y e = ap (λ l. put_back homes l) e
@@ -411,12 +422,13 @@ puts_lead bus slots id n me x may held s kept deep at below =
       offered = h.offered;
       few = h.few;
       put_is = ap (λ xs. xs ++ x ∷ []) put;
-      lead_is = All-cons (IsLead bus) x [] may.is_lead (All-nil (IsLead bus));
+      lead_is = inr may.is_lead;
       attach_low = h.attach_low;
       attach_high = h.attach_high;
       head_high = h.head_high;
     } in
-    let start : IsStartBy t.attach x = start_by_later p.attach t.attach x r.take.attach_seen may.in_time in
+    let in_time : IsStartBy p.attach x = lead_in_time p.offers may.is_lead.reading p.attach x may.is_lead.lead_is in
+    let start : IsStartBy t.attach x = start_by_later p.attach t.attach x r.take.attach_seen in_time in
     let next = slot_comes bus s id me.0 p' t r at may.may may.open_ may.open_ x n may.mine refl refl may.count refl r.take.attach_seen r.take.head_seen start full in
     let back : homes_after s.homes me.1 gives ≡ set s.homes (length p.put % length s.homes) (some (Some x)) =
     given_back s.homes me.1 (length p.put % slots) (Some x) held ∙ ap (λ k. set s.homes (length p.put % k) (some (Some x))) (sym deep) in
@@ -451,7 +463,7 @@ puts_record bus slots id n me reading may held s kept deep at below =
       offered = offers-snoc bus (length s.homes) [] p.offers o h.offered entry;
       few = omega (arith, may.room, length-append p.offers (o ∷ []));
       put_is = put ∙ sym (append-nil (put_of (p.offers ++ o ∷ [])));
-      lead_is = All-nil (IsLead bus);
+      lead_is = inl refl;
       attach_low = h.attach_low;
       attach_high = All-push (λ (q : Offered). q.attach ≤ p.attach) p.offers o h.attach_high (omega arith);
       head_high = All-push (IsHeadBy p.head) p.offers o h.head_high (head_of_some p.head o refl);

@@ -13,7 +13,7 @@ use Rattle.gap_ring.specs.declared.entries.Taken.{Taken}
 use Rattle.gap_ring.specs.declared.view.View.{View}
 use Rattle.gap_ring.specs.Offers.{IsHeadBy}
 use Rattle.gap_ring.specs.Turns.{IsStartBy}
-use Rattle.gap_ring.specs.Rule.{first_view, first_putting, first_taking, word_count, attach_word, IsLead, KeptBy, Kept}
+use Rattle.gap_ring.specs.Rule.{first_view, first_putting, first_taking, word_count, attach_word, KeptBy, Kept}
 use Rattle.gap_ring.specs.Steps.{putter_side, taker_side, both_sides, spent_view}
 use Rattle.gap_ring.proofs.SeatLaws.{seats_start, seats_split, seats_join}
 use Rattle.gap_ring.proofs.SlotLaws.{slots_start}
@@ -51,7 +51,7 @@ starts bus capacity ws two is =
           offered = tt;
           few = omega arith;
           put_is = refl;
-          lead_is = All-nil (IsLead bus);
+          lead_is = inl refl;
           attach_low = omega arith;
           attach_high = All-nil (λ (o : Offered). o.attach ≤ 1);
           head_high = All-nil (IsHeadBy 0);

@@ -415,8 +415,10 @@ learns bus slots id me puts may s kept deep at below =
       split = r.take.split;
       room = subst (λ k. length r.waiting ≤ k) deep r.take.room;
       words = r.take.taken;
+      attach_low = omega (arith, r.put.attach_low);
       low = All-weaker (λ (o : Offered). o.attach ≤ p.attach) (λ o. o.attach ≤ t.attach) (λ o low. omega arith) p.offers r.put.attach_high;
       heads = All-weaker (IsHeadBy p.head) (IsHeadBy (length t.taken)) (λ o h. head_later p.head (length t.taken) o r.take.head_seen h) p.offers r.put.head_high;
+      gap_is = r.end.gap_is;
       done = λ d. ((r.end.done_is d).1, (r.end.done_is d).2);
     } in (
       record me.0 { taking = t' },

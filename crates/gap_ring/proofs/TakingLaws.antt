@@ -193,7 +193,7 @@ module _ (slots end tail : ℕ) (c : Progress) (x : Item) (m0 m1 m2 m3 : Sat) (h
   next_here : IsNext t x
   next_here =
       let n : IsNext (end_loaded end t) x = subst (IsNext (end_loaded end t)) same_item waited.3 in
-      record { of_bus = n.of_bus; rises = n.rises; bounded = n.bounded; low = n.low }
+      record { of_bus = n.of_bus; rises = n.rises; low = n.low }
 
   view_here : m3.0 ≡ record m0.0 { taking = took t x end tail }
   view_here =

@@ -1,11 +1,10 @@
 -- Where each step of a seat may be made, by what the seat knows.
-use Rattle.std.specs.Prelude.{◌≡◌, ◌⊎◌, ℕ, ◌+◌, ◌<◌, ◌≤◌, true, false, [], length, Option, Some, None}
+use Rattle.std.specs.Prelude.{◌≡◌, ◌⊎◌, ℕ, ◌+◌, ◌<◌, ◌≤◌, true, false, [], ◌∷◌, length, Option, Some, None}
 use Rattle.std.specs.Prelude.{option_to_list}
 use Rattle.bench_model.specs.declared.reading.Reading.{Reading}
 use Rattle.bench_model.specs.declared.reading.Item.{Item}
 use Rattle.gap_ring.specs.declared.view.View.{View}
 use Rattle.gap_ring.specs.Offers.{IsAttached, IsHeadOf, slots_needed, slots_free, lead, put_of}
-use Rattle.gap_ring.specs.Turns.{IsStartBy}
 use Rattle.gap_ring.specs.Rule.{IsLead, most_offers, first_word, last_word, versions_word}
 
 -- what a step may be asked for: the record is the next one of the bus, and the offers have not ended
@@ -36,8 +35,7 @@ pub record MayLead (bus : ℕ) (x : Item) (n : ℕ) (v : View) : Type 0 where
   pub open_ : v.putting.ended ≡ false
   pub mine : v.putting.holds_slot ≡ true
   pub no_lead : v.putting.lead ≡ []
-  pub is_lead : IsLead bus x
-  pub in_time : IsStartBy v.putting.attach x
+  pub is_lead : IsLead bus v.putting.offers v.putting.attach (x ∷ [])
   pub count : n ≡ length v.putting.put + 1
 
 -- the tail, with the record

@@ -48,7 +48,7 @@ gap_after before o outcome.Refused =
     cond (o.attach == turn_of before) (Some (longer (gap_of (trailing before)) o.reading)) (gap_of (trailing before))
 gap_after before o outcome.Away = gap_of (trailing before)
 
--- what an offer does: all that it does not name stays as it was
+-- what an offer does
 pub record OfferMade (bus slots : ℕ) (reading : Reading) (v v' : View) (answer : Offer) : Type 0 where
   pub entry : Offered
   pub reading_is : entry.reading ≡ reading

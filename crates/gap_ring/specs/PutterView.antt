@@ -2,10 +2,8 @@
 use Rattle.std.specs.Prelude.{◌≡◌, ℕ, Bool, List}
 use Rattle.std.specs.Arc.{arc_value}
 use Rattle.atomic_table.specs.Seated.{TableId}
-use Rattle.bench_model.specs.declared.reading.Item.{Item}
 use Rattle.gap_ring.specs.declared.entries.Offered.{Offered}
 use Rattle.gap_ring.specs.declared.putter.Putter.{Putter}
-use Rattle.gap_ring.specs.declared.view.Did.{Did}
 use Rattle.gap_ring.specs.declared.view.View.{View}
 
 -- which ring it is
@@ -22,15 +20,9 @@ slots_of p = (ring_of p).slots
 abbrev pub view_of : Putter → View
 view_of p = p.seat.me.0
 
--- the offers that it made, what it put, its loads and stores, and whether it has ended
+-- the offers that it made, and whether it has ended
 abbrev pub offers_of : Putter → List Offered
 offers_of p = (view_of p).putting.offers
-
-abbrev pub put_by_putter : Putter → List Item
-put_by_putter p = (view_of p).putting.put
-
-abbrev pub steps_of : Putter → List Did
-steps_of p = (view_of p).putting.steps
 
 abbrev pub has_ended : Putter → Bool
 has_ended p = (view_of p).putting.ended

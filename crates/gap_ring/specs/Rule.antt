@@ -7,14 +7,15 @@ use mathlib.Core.Option.{some}
 use mathlib.Core.Option as maybe
 use lib.ListN.{get_elem?}
 use Rattle.atomic_table.specs.Table.{State}
+use Rattle.bench_model.specs.declared.reading.Reading.{Reading}
 use Rattle.bench_model.specs.declared.reading.Missed.{Missed}
 use Rattle.bench_model.specs.declared.reading.Item.{Item}
-use Rattle.bench_model.specs.declared.reading.Item.TheVariants as item
+use Rattle.gap_ring.specs.declared.entries.Offered.{Offered}
 use Rattle.gap_ring.specs.declared.view.GapWords.{GapWords}
 use Rattle.gap_ring.specs.declared.view.Putting.{Putting}
 use Rattle.gap_ring.specs.declared.view.Taking.{Taking}
 use Rattle.gap_ring.specs.declared.view.View.{View}
-use Rattle.gap_ring.specs.Offers.{put_of, gap_of, trailing, last_version_of, IsHeadBy, AreOffers}
+use Rattle.gap_ring.specs.Offers.{IsAttached, lead, put_of, gap_of, trailing, last_version_of, IsHeadBy, AreOffers}
 use Rattle.gap_ring.specs.Turns.{items_taken, IsStartBy, AreTaken}
 
 -- the places of the words, each on a cache line of its own
@@ -45,6 +46,10 @@ word_count = 112
 -- a ring has no more slots than this
 abbrev pub most_slots : ℕ
 most_slots = 16384
+
+-- a word is below this
+abbrev pub word_limit : ℕ
+word_limit = 2 ^ 64
 
 -- an attach word and a count of offers are below this
 abbrev pub count_limit : ℕ
@@ -105,16 +110,18 @@ pub record Words (ws : List ℕ) (p : Putting) (t : Taking) : Type 0 where
   pub last_is : slice_index ws last_word ≡ p.gap.last
   pub versions_is : slice_index ws versions_word ≡ p.gap.versions
 
--- what is put before a record: a Start or a gap of the bus
-abbrev pub IsLead : ℕ → Item → Type 0
-IsLead bus (item.Start b number turn) = b ≡ bus
-IsLead bus (item.Reading r) = ⊥
-IsLead bus (item.Gap b m) = b ≡ bus
-IsLead bus (item.End b number) = ⊥
-
 -- no more records are offered than this
 abbrev pub most_offers : ℕ
 most_offers = 2 ^ 62
+
+-- what was put before the record of the offer that is being made: the Start or the gap that goes before the
+-- next record of the bus under the attach word that was loaded last, which is odd
+pub record IsLead (bus : ℕ) (offers : List Offered) (attach : ℕ) (items : List Item) : Type 0 where
+  pub reading : Reading
+  pub bus_is : reading.bus ≡ bus
+  pub number_is : reading.number ≡ length offers
+  pub attached : IsAttached attach
+  pub lead_is : items ≡ lead offers reading attach
 
 -- what was offered and put
 pub record PutRule (bus capacity : ℕ) (p : Putting) : Type 0 where
@@ -122,7 +129,8 @@ pub record PutRule (bus capacity : ℕ) (p : Putting) : Type 0 where
   pub few : length p.offers ≤ most_offers
   -- what was put is what the offers put, and what goes before the record of the offer that is being made
   pub put_is : p.put ≡ put_of p.offers ++ p.lead
-  pub lead_is : All (IsLead bus) p.lead
+  -- so a Start that is put has an odd turn above that of the group before it (`a_start_begins_a_later_turn`)
+  pub lead_is : (p.lead ≡ []) ⊎ IsLead bus p.offers p.attach p.lead
   -- the attach words that the offers loaded are no higher than the one that was loaded last
   pub attach_low : 1 ≤ p.attach
   pub attach_high : All (λ o. o.attach ≤ p.attach) p.offers

@@ -212,7 +212,6 @@ record_number (item.End bus number) = 0
 pub record IsNext (t : Taking) (x : Item) : Type 0 where
   pub of_bus : IsOfBus t.bus x
   pub rises : AllPairs (λ a b. a < b) (numbers_read (items_taken t.taken ++ x ∷ []))
-  pub bounded : All (λ n. n < most_offers) (numbers_read (x ∷ []))
   pub low : record_number x < most_offers
 
 -- all offers, of which the taker has taken all that they put
@@ -296,9 +295,12 @@ pub record HaveMet (bus slots : ℕ) (p : Putting) (t : Taking) : Type 0 where
   pub split : p.put ≡ items_taken t.taken ++ waiting
   pub room : length waiting ≤ slots
   pub words : AreTaken t.attach t.taken
+  pub attach_low : 1 ≤ t.attach
   pub low : All (λ o. o.attach ≤ t.attach) p.offers
   -- no offer loaded a head above the number taken
   pub heads : All (IsHeadBy (length t.taken)) p.offers
+  -- once ended, the gap words are those of the trailing gap
+  pub gap_is : p.ended ≡ true → p.gap ≡ gap_words_of (gap_of (trailing p.offers))
   pub done : t.done ≡ true → (t.known ≡ p.offers) × (items_taken t.taken ≡ p.put)
 
 abbrev pub learned : ℕ → At → Sat → ℕ → Sat → Type 0

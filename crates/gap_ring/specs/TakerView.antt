@@ -17,7 +17,7 @@ abbrev pub ring_of_taker : Taker → TableId
 ring_of_taker t = (arc_value t.ring).shared.table_id
 
 abbrev pub bus_of_taker : Taker → ℕ
-bus_of_taker t = (arc_value t.ring).shared.key
+bus_of_taker t = (taking_of t).bus
 
 abbrev pub slots_of_taker : Taker → ℕ
 slots_of_taker t = (ring_of_taker t).slots

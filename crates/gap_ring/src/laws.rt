@@ -4,6 +4,7 @@
 ghost use Rattle.std.specs.Prelude.{◌≡◌, ◌≢◌, ◌⊎◌, ◌+◌, ◌*◌, ◌<◌, ◌≤◌, ℕ, List, [], ◌∷◌, ◌++◌, length, map};
 ghost use Rattle.std.specs.Prelude.{filter};
 ghost use Rattle.std.specs.Prelude.{All, AllPairs, Contains, Option, Some, None};
+ghost use Rattle.bench_model.specs.declared.reading.Reading.{Reading};
 ghost use Rattle.bench_model.specs.declared.reading.Item.{Item};
 ghost use Rattle.bench_model.specs.declared.reading.Item.TheVariants as item;
 ghost use Rattle.gap_ring.specs.declared.entries.Outcome.{Outcome};
@@ -11,7 +12,7 @@ ghost use Rattle.gap_ring.specs.declared.entries.Outcome.TheVariants as outcome;
 ghost use Rattle.gap_ring.specs.declared.entries.Offered.{Offered};
 ghost use Rattle.gap_ring.specs.declared.entries.Taken.{Taken};
 ghost use Rattle.gap_ring.specs.Offers.{AreOffers, Ends, IsAttached, IsDetached, IsHeadOf};
-ghost use Rattle.gap_ring.specs.Offers.{is_put, put_of, turn_of, trailing, gap_of, longer, missed_count};
+ghost use Rattle.gap_ring.specs.Offers.{is_put, put_of, turn_of, trailing, gap_of, lead, longer, missed_count};
 ghost use Rattle.gap_ring.specs.Tiles.{numbers_read};
 ghost use Rattle.gap_ring.specs.Groups.{Group, IsGroup, AreGroups};
 ghost use Rattle.gap_ring.specs.Turns.{AreTaken, IsWholeTurn, IsPartOfTurn, items_taken, given, ending};
@@ -37,6 +38,15 @@ pub fn what_was_put_is_made_of_groups()
         → AreGroups bus offers items a → AreGroups bus offers items b → a ≡ b }
     ensures turns { (attach : ℕ) (offers : List Offered) (g : Group) → IsGroup offers g
         → All (λ o. o.attach ≤ attach) offers → g.turn ≤ attach }
+{}
+
+/// A Start goes before a record only in a later turn than that of the last record that was put. It has the
+/// number of its record.
+pub fn a_start_begins_a_later_turn()
+    ensures { (offers : List Offered) (reading : Reading) (attach bus number turn : ℕ)
+        → All (λ o. o.attach ≤ attach) offers
+        → lead offers reading attach ≡ item.Start bus number turn ∷ []
+        → (turn ≡ attach) × (turn_of offers < turn) × (number ≡ reading.number) }
 {}
 
 /// The records that were put are those of the offers that were put, in order. So their numbers rise.

@@ -29,6 +29,12 @@ mod view;
 pub use answers::{Offer, Take};
 pub use count::Count;
 pub use entries::{Offered, Outcome, Taken};
+pub use laws::{
+    a_refusal_is_counted_once, a_start_begins_a_later_turn, a_turn_to_the_end_is_whole,
+    an_offer_ends_in_one_way, numbers_of_records_rise, other_turns_give_nothing_to_this_one,
+    the_first_turn_begins_at_the_first_record, what_was_given_is_a_prefix_of_its_group,
+    what_was_put_is_made_of_groups,
+};
 pub use met::{Met, meet};
 pub use pair::ring;
 pub use progress::Progress;

@@ -2,7 +2,7 @@
 ghost use Rattle.std.specs.Prelude.{◌≡◌, ◌+◌, ◌<◌, ◌≤◌, [], length, false, Some, option_to_list};
 ghost use Rattle.gap_ring.specs.Offers.{trailing, gap_of, last_version_of};
 ghost use Rattle.gap_ring.specs.Rule.{version_limit, gap_words_of, first_word, last_word, versions_word};
-ghost use Rattle.gap_ring.specs.Rule.{end_word};
+ghost use Rattle.gap_ring.specs.Rule.{end_word, word_limit};
 ghost use Rattle.gap_ring.specs.Steps.{slot_taken};
 ghost use Rattle.gap_ring.specs.May.{MayItems, MayOffer};
 ghost use Rattle.gap_ring.specs.Ends.{IsOn, PutterRests};
@@ -29,7 +29,7 @@ fn put_items(
 ) -> u64
     requires on { IsOn ring.now.shared.table_id seat.old }
     requires sized { (capacity ≡ ring.now.shared.table_id.slots) × (2 ≤ capacity)
-        × (tail + 2 ≤ 18446744073709551615) }
+        × (tail + 2 < word_limit) }
     requires tail { tail ≡ length seat.old.me.0.putting.put }
     requires hand { seat.old.me.1 ≡ slot_taken ring.now.shared.table_id.slots seat.old.me.0.putting }
     requires may { MayItems ring.now.shared.key ring.now.shared.table_id.slots reading lead seat.old.me.0 }

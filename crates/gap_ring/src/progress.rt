@@ -1,6 +1,6 @@
 //! How far a taker has come.
 ghost use Rattle.std.specs.Prelude.{◌≡◌, ◌+◌, ◌<◌, ◌||◌, ◌&&◌, nat_lt, cond, Some, None};
-ghost use Rattle.gap_ring.specs.Rule.{most_offers};
+ghost use Rattle.gap_ring.specs.Rule.{most_offers, word_limit};
 ghost use Rattle.gap_ring.specs.Turns.{starts_turn, next_after};
 ghost use Rattle.gap_ring.specs.Steps.{record_number};
 ghost use Rattle.gap_ring.specs.Takes.{gap_by};
@@ -21,7 +21,7 @@ pub struct Progress {
 impl Progress {
     // An item was taken. Says whether it is one of this turn.
     pub(crate) fn pass(&mut self, item: &Item) -> bool
-        requires head { self.old.head < 18446744073709551615 }
+        requires head { self.old.head + 1 < word_limit }
         requires number { record_number item.now < most_offers }
         ensures result { result ≡ (self.old.started || starts_turn self.old.attach item.now) }
         ensures progress { self.new

@@ -1,12 +1,15 @@
 //! One thread offers 100,000 records and another takes them, in turns of uneven length. What was taken is
-//! checked by code of its own: each turn tiles the records from its Start on, and what was given and missed
-//! is what was put and refused.
+//! checked by code of its own: each turn tiles the records from its Start on, and in a run of one turn what
+//! was given and missed is what was put and refused. Then the two ends meet, and each item that was put was
+//! taken: as a Start, a record, a gap, or one of an earlier turn.
 ghost use Rattle.std.specs.Prelude.{◌≡◌, ◌+◌, ◌*◌, ◌≤◌, false, length};
-ghost use Rattle.gap_ring.specs.PutterView.{bus_of, offers_of, has_ended};
-ghost use Rattle.gap_ring.specs.TakerView.{turn_of_taker};
+ghost use Rattle.gap_ring.specs.Rule.{most_slots};
+ghost use Rattle.gap_ring.specs.PutterView.{ring_of, bus_of, offers_of, has_ended};
+ghost use Rattle.gap_ring.specs.TakerView.{ring_of_taker, turn_of_taker};
+ghost use Rattle.gap_ring.specs.MetView.{IsPair};
 
 use super::{Answer, Got, offer, take};
-use crate::{Putter, Taker, ring};
+use crate::{Putter, Taker, meet, ring};
 use bench_model::Missed;
 use std::alloc::{AllocError, Global};
 use std::process::Abort;
@@ -31,7 +34,9 @@ struct Feed {
 
 impl Feed {
     // Offers the next record; false where all were offered.
-    fn step(&mut self) -> bool {
+    fn step(&mut self) -> bool
+        ensures { ring_of self.new.putter ≡ ring_of self.old.putter }
+    {
         if self.number >= RECORDS {
             return false;
         }
@@ -46,8 +51,19 @@ impl Feed {
     }
 }
 
-// Offers all records. Gives how many were put, refused and away.
-fn put_all(rt: &impl Wait, mut feed: Feed) -> (u64, u64, u64) {
+/// A putter that has ended, and how its offers ended.
+#[derive(Drop)]
+struct Fed {
+    putter: Putter,
+    put: u64,
+    refused: u64,
+    away: u64,
+}
+
+// Offers all records, and ends.
+fn put_all(rt: &impl Wait, mut feed: Feed) -> Fed
+    ensures { ring_of result.putter ≡ ring_of feed.putter }
+{
     for _ in rt.forever() {
         if !feed.step() {
             break;
@@ -64,7 +80,12 @@ fn put_all(rt: &impl Wait, mut feed: Feed) -> (u64, u64, u64) {
         away,
     } = feed;
     putter.end();
-    (put, refused, away)
+    Fed {
+        putter,
+        put,
+        refused,
+        away,
+    }
 }
 
 /// The taker, and what it found so far.
@@ -75,7 +96,12 @@ struct Session {
     /// Whether this turn's Start was taken, and the number that must come next then.
     begun: bool,
     next: u64,
+    /// The items taken: of this turn Starts, records and gaps, and those of an earlier one.
+    starts: u64,
     given: u64,
+    gaps: u64,
+    olds: u64,
+    /// The records that gaps counted, that at the end too.
     missed: u64,
     ended: bool,
     fault: bool,
@@ -83,13 +109,36 @@ struct Session {
 }
 
 impl Session {
-    fn expect(&mut self, holds: bool) {
+    fn new(taker: Taker) -> Session
+        requires { turn_of_taker taker ≡ 1 }
+        ensures { ring_of_taker result.taker ≡ ring_of_taker taker }
+    {
+        Session {
+            taker,
+            turns: 0,
+            begun: false,
+            next: 0,
+            starts: 0,
+            given: 0,
+            gaps: 0,
+            olds: 0,
+            missed: 0,
+            ended: false,
+            fault: false,
+        }
+    }
+
+    fn expect(&mut self, holds: bool)
+        ensures { self.new.taker ≡ self.old.taker }
+    {
         if !holds {
             self.fault = true;
         }
     }
 
-    fn gap(&mut self, missed: Missed) {
+    fn gap(&mut self, missed: Missed)
+        ensures { self.new.taker ≡ self.old.taker }
+    {
         let last = missed.first.wrapping_add(missed.count).wrapping_sub(1);
         self.expect(self.begun && missed.first == self.next && missed.count > 0);
         self.expect(
@@ -99,11 +148,14 @@ impl Session {
         self.next = last.wrapping_add(1);
     }
 
-    fn step(&mut self) -> bool {
+    fn step(&mut self) -> bool
+        ensures { ring_of_taker self.new.taker ≡ ring_of_taker self.old.taker }
+    {
         match take(&mut self.taker) {
             Got::Start { number, turn } => {
                 self.expect(!self.begun && number >= self.next && turn == 2 * self.turns + 1);
                 self.begun = true;
+                self.starts = self.starts.wrapping_add(1);
                 self.next = number;
             }
             Got::Record { number } => {
@@ -111,9 +163,15 @@ impl Session {
                 self.given = self.given.wrapping_add(1);
                 self.next = number.wrapping_add(1);
             }
-            Got::Gap { missed } => self.gap(missed),
+            Got::Gap { missed } => {
+                self.gaps = self.gaps.wrapping_add(1);
+                self.gap(missed);
+            }
             Got::End => self.fault = true,
-            Got::Old => self.expect(!self.begun),
+            Got::Old => {
+                self.olds = self.olds.wrapping_add(1);
+                self.expect(!self.begun);
+            }
             Got::Empty { tail: _ } => thread::yield_now(),
             Got::Ended { number, gap } => {
                 if let Some(missed) = gap {
@@ -127,7 +185,9 @@ impl Session {
     }
 
     // Another turn, where the most are not reached.
-    fn renew(&mut self) {
+    fn renew(&mut self)
+        ensures { ring_of_taker self.new.taker ≡ ring_of_taker self.old.taker }
+    {
         if self.turns < 1000 {
             self.taker.detach();
             thread::yield_now();
@@ -142,9 +202,12 @@ fn stamp(number: u64) -> u64 {
     number.wrapping_mul(10).wrapping_add(1_000_000)
 }
 
-// Takes all, with a new turn after so many records, or none where that is 0.
-fn drain(rt: &impl Wait, mut session: Session, every: u64) -> (u64, u64, u64, bool) {
-    let mut since = 0u64;
+// Takes all, with a new turn after so many steps, or none where that is 0. The first turn has two steps, of
+// which none can find the end, since the first record is put behind its Start.
+fn drain(rt: &impl Wait, mut session: Session, every: u64) -> Session
+    ensures { ring_of_taker result.taker ≡ ring_of_taker session.taker }
+{
+    let mut since = every.saturating_sub(1);
     for _ in rt.forever() {
         if !session.step() {
             break;
@@ -158,17 +221,53 @@ fn drain(rt: &impl Wait, mut session: Session, every: u64) -> (u64, u64, u64, bo
             thread::yield_now();
         }
     }
-    (session.given, session.missed, session.turns, session.fault)
+    session
 }
 
-// Whether a run through a ring of so many slots, with a new turn after so many records, was right.
+// Whether what was put and what was taken agree, in a run of more turns or of one.
+fn agree(fed: Fed, session: Session, more: bool) -> bool
+    requires { IsPair fed.putter session.taker }
+{
+    let Fed {
+        putter,
+        put,
+        refused,
+        away,
+    } = fed;
+    let Session {
+        taker,
+        turns,
+        begun: _,
+        next: _,
+        starts,
+        given,
+        gaps,
+        olds,
+        missed,
+        ended: _,
+        fault,
+    } = session;
+    let met = meet(putter, taker);
+    let items = starts
+        .wrapping_add(given)
+        .wrapping_add(gaps)
+        .wrapping_add(olds);
+    let taken = met.put == met.taken && met.taken == items;
+    let counted = put.wrapping_add(refused).wrapping_add(away) == RECORDS;
+    let within = given <= put && missed <= refused;
+    let whole = away == 0 && olds == 0 && given == put && missed == refused;
+    let turned = if more { turns > 0 } else { turns == 0 && whole };
+    !fault && taken && counted && within && turned
+}
+
+// Whether a run through a ring of so many slots, with a new turn after so many steps, was right.
 fn is_right<R: Threads + Wait + Sync>(
     rt: &R,
     alloc: Global,
     capacity: usize,
     every: u64,
 ) -> Result<bool, AllocError>
-    requires { (2 ≤ capacity) × (capacity ≤ 16384) }
+    requires { (2 ≤ capacity) × (capacity ≤ most_slots) }
 {
     let (putter, taker) = ring(alloc, 0, capacity)?;
     let source = Feed {
@@ -178,26 +277,14 @@ fn is_right<R: Threads + Wait + Sync>(
         refused: 0,
         away: 0,
     };
-    let session = Session {
-        taker,
-        turns: 0,
-        begun: false,
-        next: 0,
-        given: 0,
-        missed: 0,
-        ended: false,
-        fault: false,
-    };
-    let (fed, drained) = thread::join(
+    let session = Session::new(taker);
+    // where no thread can be made the last closure runs first
+    let (session, fed) = thread::join(
         rt,
-        move || put_all(rt, source),
         move || drain(rt, session, every),
+        move || put_all(rt, source),
     );
-    let (put, refused, away) = fed;
-    let (given, missed, turns, fault) = drained;
-    let counted = put.wrapping_add(refused).wrapping_add(away) == RECORDS;
-    let whole = away == 0 && given == put && missed == refused;
-    Ok(!fault && counted && given <= put && missed <= refused && (turns > 0 || whole))
+    Ok(agree(fed, session, every > 0))
 }
 
 #[test]
