@@ -1,0 +1,16 @@
+pub mod WordLaws
+pub mod TextLaws
+pub mod UniqueLaws
+pub mod ByteLaws
+pub mod RowLaws
+pub mod SearchLaws
+pub mod LabelLaws
+pub mod EntryLaws
+pub mod BetweenLaws
+pub mod IndexLaws
+pub mod MatchLaws
+pub mod ActiveLaws
+pub mod NumberLaws
+pub mod ValueLaws
+pub mod DecodeLaws
+pub mod ExampleLaws

@@ -1,0 +1,9 @@
+-- which bench a list of words encodes
+pub mod Layout
+pub mod Index
+pub mod Image
+-- what is known of a list of words
+pub mod Knowledge
+-- what the code reads on its way
+pub mod Reading
+pub mod Found
