@@ -21,6 +21,7 @@ use Rattle.image_words.specs.Layout.{EachRow, bytes_from, HasText}
 use Rattle.image_words.specs.Index.{key_entries, HasIndex}
 use Rattle.image_words.specs.Image.{HasScaled, HasSignal, HasDecodable, HasMessage, HasBus, Encodes}
 use Rattle.image_words.specs.Knowledge.{Fits, SomeFits, Holds}
+use Rattle.image_words.proofs.WholeLaws.{same_list}
 
 abbrev pub example_image : List ℕ
 example_image =
@@ -186,18 +187,6 @@ pub vector_fits : (items : List ℕ) → items ≡ example_image →
 vector_fits items e =
     let P : List ℕ → Type 0 = λ xs. SomeFits (record { size = length xs; buses = slice_index xs 1; known = slice_get xs }) in
     subst P (sym e) (record { image = example_image; bench = example_bench; fits = example_fits })
-
-some_is : (a b : ℕ) → Some a ≡ Some b → b ≡ a
-some_is a b e = cc
-
-same_list : (xs ys : List ℕ) → length ys ≡ length xs → ((i w : ℕ) → slice_get xs i ≡ Some w → slice_get ys i ≡ Some w) → ys ≡ xs
-same_list [] [] e h = refl
-same_list [] (y ∷ ys) e h = absurd (omega (arith, e))
-same_list (x ∷ xs) [] e h = absurd (omega (arith, e))
-same_list (x ∷ xs) (y ∷ ys) e h =
-    let head : y ≡ x = sym (some_is y x (h 0 x refl)) in
-    let tail : ys ≡ xs = same_list xs ys (omega (arith, e)) (λ i w at. h (suc i) w at) in
-    λ j. head j ∷ tail j
 
 -- whatever list fits, the row at its place 14 is that of the signal
 pub vector_signal : (items : List ℕ) → items ≡ example_image →

@@ -13,4 +13,5 @@ pub mod ActiveLaws
 pub mod NumberLaws
 pub mod ValueLaws
 pub mod DecodeLaws
+pub mod WholeLaws
 pub mod ExampleLaws

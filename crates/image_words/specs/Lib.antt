@@ -4,6 +4,8 @@ pub mod Index
 pub mod Image
 -- what is known of a list of words
 pub mod Knowledge
+-- all words of a list, and where its rows stand
+pub mod Whole
 -- what the code reads on its way
 pub mod Reading
 pub mod Found

@@ -24,7 +24,9 @@ mod values;
 mod words;
 
 pub use decoding::decode;
-pub use laws::{knowledge_narrows, known_words_decide, one_encoded};
+pub use laws::{
+    knowledge_narrows, known_words_decide, one_encoded, signals_have_rows, whole_list_fits,
+};
 pub use raw::raw_of;
 pub use words::Words;
 

@@ -71,6 +71,9 @@ fn a_frame_is_decoded_from_words(rt: HostRuntime) -> Result<(), Fail> {
         for value in plain.signals.items() {
             assert_eq!(rt; value.name.bytes(), b"c".as_slice());
             assert_eq!(rt; value.raw, 4660);
+            assert_eq!(rt; value.value.num, 4660);
+            assert_eq!(rt; value.value.k, 0);
+            assert!(rt; value.label.is_none());
             assert_eq!(rt; value.unit.bytes(), b"kilometre".as_slice());
         }
         assert_eq!(rt; plain.signals.items().len(), 1);

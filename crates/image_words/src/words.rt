@@ -1,6 +1,6 @@
 //! Words of which some are known.
 
-ghost use Rattle.std.specs.Prelude.{◌≡◌, ◌<◌, length, slice_get, slice_index};
+ghost use Rattle.std.specs.Prelude.{◌≡◌, ◌<◌};
 ghost use Rattle.image_words.specs.Knowledge.{Knowledge, Learns, SomeFits};
 
 /// A list of words that is learned word by word. While an image is read the words that were read are known,
@@ -32,8 +32,9 @@ pub trait Words {
 impl Words for Vec<u64> {
     ghost use Rattle.std.specs.Prelude.{refl};
     ghost use Rattle.std.proofs.Common.{◌∙◌};
+    ghost use Rattle.image_words.specs.Whole.{all_of};
 
-    ghost knows = { λ v. record { size = length v.items; buses = slice_index v.items 1; known = slice_get v.items } };
+    ghost knows = { λ v. all_of v.items };
 
     ghost reads = { λ v w. w ≡ v };
 
