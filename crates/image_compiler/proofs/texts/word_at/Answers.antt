@@ -1,0 +1,7 @@
+use Rattle.image_compiler.proofs.WritingLaws.{eight_bytes}
+use Rattle.image_compiler.proofs.texts.word_at.Goals as goal
+
+pub returns : goal.returns
+returns c = eight_bytes c.args.bytes.now c.args.at c.from_le_bytes.result c.byte_at.result c.byte_at-2.result c.byte_at-3.result c.byte_at-4.result c.byte_at-5.result c.byte_at-6.result
+    c.byte_at-7.result c.byte_at-8.result c.byte_at.ensures c.byte_at-2.ensures c.byte_at-3.ensures c.byte_at-4.ensures c.byte_at-5.ensures c.byte_at-6.ensures c.byte_at-7.ensures
+    c.byte_at-8.ensures c.from_le_bytes.ensures

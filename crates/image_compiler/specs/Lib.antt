@@ -1,0 +1,7 @@
+-- the size of an image, and what stands in it
+pub mod Size
+pub mod Layout
+-- when there is none
+pub mod Refusal
+-- what the types of the code say
+pub mod Typed
