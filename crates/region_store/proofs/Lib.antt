@@ -1,0 +1,12 @@
+pub mod PlaceLaws
+pub mod UseLaws
+pub mod ReachedLaws
+pub mod WordLaws
+pub mod SeatLaws
+pub mod LaneLaws
+pub mod LoaderLaws
+pub mod StoreLaws
+pub mod ReadLaws
+pub mod LookLaws
+pub mod FirstLaws
+pub mod WriteLaws

@@ -1,0 +1,125 @@
+use Rattle.std.proofs.Common.{◌≡◌, ◌≢◌, ℕ, ◌+◌, ◌-◌, ◌*◌, ◌<◌, ◌≤◌, List, [], ◌++◌, length, None, refl, sym, ap, ◌∙◌, subst, arith, length-append, ⊎_elim, inl, inr}
+use Rattle.std.proofs.lemmas.Bool.{cases_eq}
+use Rattle.std.proofs.lemmas.Bool.Decides.{leb_tells}
+use Rattle.region_store.specs.declared.loader.Holder.{Holder}
+use Rattle.region_store.specs.declared.view.Shape.{Shape}
+use Rattle.region_store.specs.declared.view.View.{View}
+use Rattle.region_store.specs.Publishing.{AreHolders, spare_below}
+use Rattle.region_store.proofs.LookLaws.{looked_none, looked_then, spare_none, spare_skip, spare_more, spare_length, loads_more, loads_fit, holders_none, holders_skip, holders_more, holders_few, holder_back}
+use Rattle.region_store.proofs.finding.find_region.Goals as goal
+
+-- the regions before a spare one are fewer than the spare ones
+spare_room : (n p all : ℕ) → n ≢ p → n < all → p < all → length (spare_below n p) + 1 ≤ all - 1
+spare_room n p all o there below =
+    let s = spare_length n p in
+    elim (leb_tells p n) as (λ _. length (spare_below n p) + 1 ≤ all - 1) [
+      | inl h ↦ omega (arith, s.1 (omega (arith, h.1, o)), there)
+      | inr h ↦ omega (arith, s.0 (omega (arith, h.1)), h.1, below)
+    ]
+
+-- and there are never more than the regions so far
+spare_few : (n p : ℕ) → length (spare_below n p) ≤ n
+spare_few n p =
+    let s = spare_length n p in
+    elim (leb_tells p n) as (λ _. length (spare_below n p) ≤ n) [
+      | inl h ↦ ⊎_elim (λ (e : n ≡ p). omega (arith, s.0 (omega (arith, e)))) (λ (o : n ≢ p). omega (arith, s.1 (omega (arith, h.1, o)))) (cases_eq n p)
+      | inr h ↦ omega (arith, s.0 (omega (arith, h.1)))
+    ]
+
+pub loop-region-init : goal.loop-region-init
+loop-region-init c =
+    let v : View = c.args.seat.now.me.0 in
+    record {
+      on = c.requires.on;
+      more = [];
+      few = omega arith;
+      looked = looked_none v;
+      holders = subst (λ (l : List Holder). AreHolders [] v 0 l) (sym c.new-each.ensures) (holders_none v);
+    }
+
+pub loop-region-preserved-then-region-published : goal.loop-region-preserved-then-region-published
+loop-region-preserved-then-region-published c =
+    let inv = c.loop-region.invariant in
+    let v : View = c.args.seat.now.me.0 in
+    let e : c.loop-region.region ≡ c.args.published = omega (arith, c.if-region-published.true) in
+    record {
+      on = inv.on;
+      more = inv.more;
+      few = subst (λ (l : List ℕ). length inv.more ≤ length l * c.args.lanes) (sym (spare_skip c.loop-region.region c.args.published e)) inv.few;
+      looked = inv.looked;
+      holders = holders_skip inv.more v c.loop-region.region _ (e ∙ c.requires.published.0) inv.holders;
+    }
+
+pub returns-in-None-clause-found : goal.returns-in-None-clause-found
+returns-in-None-clause-found c =
+    let inv = c.loop-region.invariant in
+    let v : View = c.args.seat.now.me.0 in
+    let u : View = c.loop-region.seat.me.0 in
+    let w : View = c.look.new.seat.me.0 in
+    let found = c.in-None.ensures.found in
+    let r : ℕ = c.loop-region.region in
+    let p : ℕ = c.args.published in
+    let o : r ≢ p = λ e. omega (arith, e, c.if-region-published.false) in
+    let there : r < v.shape.regions = omega (arith, c.loop-region-test.true, c.requires.retired.1, c.loop-region.auto.region-end) in
+    let lanes_u : u.shape.lanes ≡ c.args.lanes = ap (λ (x : View). x.shape.lanes) inv.looked.same ∙ sym c.requires.lanes in
+    let all = looked_then inv.more found.more v u w inv.looked found.looked in
+    let loads = loads_more (length inv.more) (length found.more) (length (spare_below r p)) c.args.lanes inv.few (omega (arith, found.few, lanes_u)) in
+    let count : length (spare_below r p) + 1 ≤ v.shape.regions - 1 = spare_room r p v.shape.regions o there c.requires.published.1 in
+    record {
+      more = inv.more ++ found.more;
+      few = omega (arith, length-append inv.more found.more, loads_fit (length inv.more + length found.more) (length (spare_below r p) + 1) (v.shape.regions - 1) c.args.lanes loads count, ap (λ x. (v.shape.regions - 1) * x) c.requires.lanes);
+      looked = all;
+      answer = record {
+        there = omega (arith, there, ap (λ (x : View). x.shape.regions) all.same);
+        spare = λ e. o (e ∙ (ap (λ (x : View). x.loader.region) all.same ∙ sym c.requires.published.0));
+        free = found.answer;
+      };
+    }
+
+pub push-requires : goal.push-requires
+push-requires c =
+    let inv = c.loop-region.invariant in
+    let v : View = c.args.seat.now.me.0 in
+    let r : ℕ = c.loop-region.region in
+    let there : r < v.shape.regions = omega (arith, c.loop-region-test.true, c.requires.retired.1, c.loop-region.auto.region-end) in
+    let count = holders_few inv.more v r _ inv.holders in
+    let s = spare_few r v.loader.region in
+    let few : v.shape.regions ≤ 8 = omega (arith, ap (λ (x : Shape). x.regions) c.requires.on.shape, c.requires.on.within.few_regions) in
+    omega (arith, count, s, there, few)
+
+pub loop-region-preserved : goal.loop-region-preserved
+loop-region-preserved c =
+    let inv = c.loop-region.invariant in
+    let v : View = c.args.seat.now.me.0 in
+    let u : View = c.loop-region.seat.me.0 in
+    let w : View = c.look.new.seat.me.0 in
+    let found = c.in-Some.ensures.found in
+    let r : ℕ = c.loop-region.region in
+    let p : ℕ = c.args.published in
+    let o : r ≢ p = λ e. omega (arith, e, c.if-region-published.false) in
+    let lanes_u : u.shape.lanes ≡ c.args.lanes = ap (λ (x : View). x.shape.lanes) inv.looked.same ∙ sym c.requires.lanes in
+    let loads = loads_more (length inv.more) (length found.more) (length (spare_below r p)) c.args.lanes inv.few (omega (arith, found.few, lanes_u)) in
+    let count : length (spare_below (r + 1) p) ≡ length (spare_below r p) + 1 = ap length (spare_more r p o) ∙ length-append (spare_below r p) _ in
+    record {
+      on = c.in-Some.ensures.on;
+      more = inv.more ++ found.more;
+      few = omega (arith, length-append inv.more found.more, loads, ap (λ x. x * c.args.lanes) count);
+      looked = looked_then inv.more found.more v u w inv.looked found.looked;
+      holders = subst (AreHolders (inv.more ++ found.more) v (r + 1)) (sym c.push.ensures.items)
+          (holders_more inv.more found.more v r _ c.in-Some.holder (λ e. o (e ∙ sym c.requires.published.0)) inv.holders found.answer.0 (holder_back inv.more found.more v u c.in-Some.holder inv.looked found.answer.1));
+    }
+
+pub returns-clause-found : goal.returns-clause-found
+returns-clause-found c =
+    let inv = c.loop-region.invariant in
+    let v : View = c.args.seat.now.me.0 in
+    let r : ℕ = c.loop-region.region in
+    let p : ℕ = c.args.published in
+    let end : r ≡ v.shape.regions = omega (arith, c.loop-region-test.false, c.requires.retired.1, c.loop-region.auto.region-end) in
+    let count : length (spare_below r p) ≡ v.shape.regions - 1 = omega (arith, (spare_length r p).1 (omega (arith, end, c.requires.published.1)), end) in
+    record {
+      more = inv.more;
+      few = omega (arith, inv.few, ap (λ x. x * c.args.lanes) count, ap (λ x. (v.shape.regions - 1) * x) c.requires.lanes);
+      looked = inv.looked;
+      answer = subst (λ (n : ℕ). AreHolders inv.more v n c.loop-region.each.items) end inv.holders;
+    }

@@ -1,0 +1,11 @@
+use Rattle.std.proofs.Common.{arith}
+use Rattle.region_store.proofs.LaneLaws.{lets_go}
+use Rattle.region_store.proofs.PlaceLaws.{count_high}
+use Rattle.region_store.proofs.steps.store_none.Goals as goal
+
+pub store-requires : goal.store-requires
+store-requires c =
+    let seat = c.args.seat.now in
+    let table = c.args.table.now.shared in
+    let may = c.requires.may in
+    (c.requires.on.own, c.requires.inside, lets_go c.the_rule_holds_in_every_schedule.ensures.every table.key.shape table.key.first.value.items table.table_id.slots seat.id c.args.word may.0 may.1.0 may.1.1.0 seat.me may.1.1.1)

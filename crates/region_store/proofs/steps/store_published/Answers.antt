@@ -1,0 +1,10 @@
+use Rattle.std.proofs.Common.{arith}
+use Rattle.region_store.proofs.LoaderLaws.{stores_published}
+use Rattle.region_store.proofs.PlaceLaws.{count_high}
+use Rattle.region_store.proofs.steps.store_published.Goals as goal
+
+pub store-requires : goal.store-requires
+store-requires c =
+    let seat = c.args.seat.now in
+    let table = c.args.table.now.shared in
+    (c.requires.on.own, omega (arith, c.requires.on.wide, count_high table.key.shape.regions table.key.shape.room), stores_published c.the_rule_holds_in_every_schedule.ensures.every table.key.shape table.key.first.value.items table.table_id.slots seat.id c.args.value c.requires.may.0 seat.me c.requires.may.1 c.requires.like)
