@@ -1,9 +1,9 @@
-//! How a store is made, and how it is closed.
-ghost use Rattle.std.specs.Prelude.{◌≡◌, ◌≤◌, ◌<◌, ◌++◌, ◌∷◌, [], length, replicate, true, false, IfOk, All};
+//! How a store is made.
+ghost use Rattle.std.specs.Prelude.{◌≡◌, ◌≤◌, ◌<◌, ◌++◌, ◌∷◌, [], length, slice_index, replicate, true, false, IfOk, All};
 ghost use Rattle.region_store.specs.Layout.{most_regions, most_lanes, most_room};
 ghost use Rattle.region_store.specs.Images.{IsImage};
 ghost use Rattle.region_store.specs.Rule.{IsWithin, first_loader};
-ghost use Rattle.region_store.specs.Store.{AreFirstWords, IsOn, IsGathered};
+ghost use Rattle.region_store.specs.Store.{AreFirstWords, IsOn};
 ghost use Rattle.region_store.specs.Ends.{shape_of, first_of};
 ghost use Rattle.region_store.specs.LoaderEnd.{IsLoaderOf, view_of_loader, AreLanes, AreLanesOf, with_made};
 
@@ -91,6 +91,7 @@ impl Store {
         requires first { IsImage first.now × (length first.now ≤ words) }
         ensures shape { IfOk result (λ r. ((shape_of r.0).regions ≡ regions) × ((shape_of r.0).lanes ≡ lanes)
             × ((shape_of r.0).room ≡ words)) }
+        ensures buses { IfOk result (λ r. (shape_of r.0).buses ≡ slice_index first.now 1) }
         ensures first { IfOk result (λ r. (first_of r.0 ≡ first.now) × (r.0.last ≡ last)) }
         ensures loader { IfOk result (λ r. IsLoaderOf r.0 r.1
             × ((view_of_loader r.1).loader
