@@ -1,6 +1,6 @@
 -- Each step of a lane keeps the rule, and shows what it is to show.
-use Rattle.std.proofs.Common.{◌≡◌, ◌≢◌, ◌⊎◌, ℕ, ◌+◌, ◌-◌, ◌^◌, ◌<◌, ◌≤◌, min, true, List, [], ◌∷◌, ◌++◌, length, get_or, set, take, Option, Some, None, All, option_map, option_to_list, slice_get}
-use Rattle.std.proofs.Common.{refl, sym, ap, ◌∙◌, subst, arith, inl, inr, ⊎_elim, length-set, length-take, get_or-set_same, get_or-set_other}
+use Rattle.std.proofs.Common.{◌≡◌, ◌≢◌, ℕ, ◌-◌, ◌<◌, ◌≤◌, min, true, List, [], ◌++◌, length, get_or, set, Some, None, All, option_map, option_to_list, slice_get}
+use Rattle.std.proofs.Common.{refl, sym, ap, ◌∙◌, subst, arith, length-set, length-take, get_or-set_same, get_or-set_other}
 use Rattle.std.proofs.lemmas.Option.{none-some, get_or_from_slice_get}
 use Rattle.std.proofs.lemmas.List.{append-nil, get_or-take}
 use Rattle.std.proofs.lemmas.List.Elements.{All-get_or, All-nil}
@@ -12,22 +12,20 @@ use Rattle.epoch_core.specs.declared.lane.LaneState.TheVariants.{Idle, Loaded, P
 use Rattle.epoch_core.specs.declared.step.Step.TheVariants.{L1, L2, L3, L5}
 use Rattle.epoch_core.specs.Machine.{Machine, lane_state, words_of, image_of, pin_for}
 use Rattle.epoch_core.specs.Steps.{after, loaded_epoch}
-use Rattle.epoch_core.specs.Rule.{RegionRule, BeginsWith}
+use Rattle.epoch_core.specs.Rule.{BeginsWith}
 use Rattle.epoch_core.specs.Runs.{IsReached}
-use Rattle.image_words.specs.Knowledge.{SomeFits}
-use Rattle.region_store.specs.declared.view.Did.{Did}
 use Rattle.region_store.specs.declared.view.Did.TheVariants as did
 use Rattle.region_store.specs.declared.view.Use.{Use}
 use Rattle.region_store.specs.declared.view.Shape.{Shape}
 use Rattle.region_store.specs.declared.view.LaneView.{LaneView}
 use Rattle.region_store.specs.declared.view.View.{View}
-use Rattle.region_store.specs.Layout.{published_word, epoch_word, pin_place, place_of, packed, version_in, region_in, size_in}
+use Rattle.region_store.specs.Layout.{published_word, epoch_word, place_of, packed, version_in, region_in, size_in}
 use Rattle.region_store.specs.Images.{IsLike}
-use Rattle.region_store.specs.Uses.{image_at, IsWordOf, UseFits, UsesFit, uses_in, known_in, knowledge_of}
+use Rattle.region_store.specs.Uses.{image_at, IsWordOf, UseFits, UsesFit, uses_in}
 use Rattle.region_store.specs.Rule.{Words, LaneKnows, KeptBy, Kept}
 use Rattle.region_store.specs.Steps.{Sat, lane_did, LaneLoads, LaneStores, with_epoch, saw_epoch, epoch_shown, with_pin, stored_pin, use_of, with_hold, saw_published, published_shown, at_in, region_held, with_read, with_word, saw_word, word_shown, with_none, let_go, IsReadOf}
 use Rattle.region_store.specs.May.{MayLoad, MayPin, MayHold, MayRead, MayLetGo}
-use Rattle.region_store.proofs.PlaceLaws.{place_low, place_back, version_back, region_back, size_back}
+use Rattle.region_store.proofs.PlaceLaws.{place_back, version_back, region_back, size_back}
 use Rattle.region_store.proofs.UseLaws.{uses_fit_push, uses_fit_init, uses_fit_last, use_fits_read, known_is_of, some_fits}
 use Rattle.region_store.proofs.ReachedLaws.{EverySchedule, reached_rule, reached_after}
 use Rattle.region_store.proofs.WordLaws.{words_loaded, pin_stored}

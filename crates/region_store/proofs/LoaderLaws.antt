@@ -4,26 +4,22 @@ use Rattle.std.proofs.Common.{refl, sym, ap, ◌∙◌, subst, arith, inl, inr, 
 use Rattle.std.proofs.lemmas.Bool.{cases_eq}
 use Rattle.std.proofs.lemmas.Option.{none-some}
 use Rattle.std.proofs.lemmas.List.{append-nil, get_or_push, get_or_default, take_all, take_more_set}
-use Rattle.std.proofs.lemmas.List.Elements.{All-get_or, All-nil, All-push}
+use Rattle.std.proofs.lemmas.List.Elements.{All-get_or, All-push}
 use mathlib.Core.Option.{none, some}
 use lib.ListN.{get_elem?}
-use Rattle.atomic_table.specs.Table.{State, step, keeps, Allows}
-use Rattle.epoch_core.specs.declared.lane.LaneState.{LaneState}
+use Rattle.atomic_table.specs.Table.{step, keeps, Allows}
 use Rattle.epoch_core.specs.declared.lane.LaneState.TheVariants.{Idle}
 use Rattle.epoch_core.specs.declared.step.Step.TheVariants.{W1, W2, W3, W4}
-use Rattle.epoch_core.specs.Machine.{Machine, lane_state, words_of, image_of, retirement, clearings, is_cleared, pin_of}
-use Rattle.epoch_core.specs.Steps.{May, after, stored, is_past, EveryLaneIsCleared, NoOtherIsWritten}
+use Rattle.epoch_core.specs.Machine.{Machine, words_of, image_of, retirement, clearings, pin_of}
+use Rattle.epoch_core.specs.Steps.{after, stored, is_past, EveryLaneIsCleared, NoOtherIsWritten}
 use Rattle.epoch_core.specs.Rule.{RegionRule, BeginsWith, IsSpare}
 use Rattle.epoch_core.specs.Runs.{IsReached}
-use Rattle.region_store.specs.declared.view.Did.{Did}
 use Rattle.region_store.specs.declared.view.Did.TheVariants as did
 use Rattle.region_store.specs.declared.view.Shape.{Shape}
-use Rattle.region_store.specs.declared.view.LaneView.{LaneView}
 use Rattle.region_store.specs.declared.view.LoaderView.{LoaderView}
 use Rattle.region_store.specs.declared.view.View.{View}
-use Rattle.region_store.specs.Layout.{published_word, epoch_word, pin_place, lane_at, place_of, packed, region_in}
+use Rattle.region_store.specs.Layout.{published_word, epoch_word, lane_at, place_of, packed, region_in}
 use Rattle.region_store.specs.Images.{IsLike}
-use Rattle.region_store.specs.Uses.{UsesFit, uses_in}
 use Rattle.region_store.specs.Rule.{Words, LoaderKnows, KeptBy, Kept}
 use Rattle.region_store.specs.Steps.{Sat, loader_did, LoaderLoads, LoaderStores, with_written, stored_word, with_published, stored_published, with_next, stored_epoch, with_clearing, saw_pin, pin_shown, is_clear, row_of, retirement_of, IsLook}
 use Rattle.region_store.specs.May.{MayWrite, MayPublish, MayFollow, MayLook, IsFree}

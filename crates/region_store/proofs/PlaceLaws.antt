@@ -1,6 +1,6 @@
 -- Words of a store lie apart, and the parts of the published word are read back.
-use Rattle.std.proofs.Common.{◌≡◌, ◌≢◌, ℕ, ◌+◌, ◌-◌, ◌*◌, ◌/◌, ◌%◌, ◌<◌, ◌≤◌, refl, sym, ap, ◌∙◌, arith}
-use Rattle.std.proofs.lemmas.Nat.{mul-le, same_from_place, mul-add-lt, div-mul-add, mod-mul-add}
+use Rattle.std.proofs.Common.{◌≡◌, ℕ, ◌+◌, ◌-◌, ◌*◌, ◌<◌, ◌≤◌, arith}
+use Rattle.std.proofs.lemmas.Nat.{mul-le, same_from_place, mul-add-lt}
 use Rattle.region_store.specs.Layout.{pin_place, lane_at, place_of, word_count, first_region}
 use Rattle.region_store.specs.Layout.{packed, version_in, region_in, size_in}
 

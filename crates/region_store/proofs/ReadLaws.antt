@@ -1,10 +1,9 @@
 -- What a word that is read under a pin changes of what is known.
-use Rattle.std.proofs.Common.{◌≡◌, ◌≢◌, ℕ, ◌+◌, ◌==◌, cond, List, [], ◌∷◌, ◌++◌, Option, Some, None, option_map}
-use Rattle.std.proofs.Common.{refl, sym, ap, ◌∙◌, subst, arith, ⊎_elim, eq-eqb, ne_eqb}
+use Rattle.std.proofs.Common.{◌≡◌, ◌≢◌, ℕ, ◌==◌, Some, option_map}
+use Rattle.std.proofs.Common.{refl, sym, ap, ◌∙◌, subst, ⊎_elim, eq-eqb, ne_eqb}
 use Rattle.std.proofs.lemmas.Bool.{cases_eq, cond-true, cond-false}
 use Rattle.image_words.specs.Knowledge.{Learns}
 use Rattle.region_store.specs.declared.view.Did.{Did}
-use Rattle.region_store.specs.declared.view.Read.{Read}
 use Rattle.region_store.specs.declared.view.Use.{Use}
 use Rattle.region_store.specs.declared.view.View.{View}
 use Rattle.region_store.specs.Uses.{known_in, knowledge_of, use_held}

@@ -1,22 +1,21 @@
 -- Each seat knows its own part: after a step of a lane, after one of the loader, after a split, and after a join.
-use Rattle.std.proofs.Common.{◌≡◌, ◌≢◌, ◌⊎◌, ℕ, zero, suc, ◌+◌, ◌<◌, ◌≤◌, ◌==◌, true, false, true≢false, cond, List, [], ◌∷◌, ◌++◌, length, get_or, set, Option, Some, None, All}
-use Rattle.std.proofs.Common.{refl, sym, ap, ◌∙◌, subst, arith, inl, inr, ⊎_elim, length-set, append_assoc, eq-eqb, ne_eqb}
-use Rattle.std.proofs.lemmas.Bool.{cases_eq, cond-true, cond-false}
+use Rattle.std.proofs.Common.{◌≡◌, ◌≢◌, ◌⊎◌, ℕ, zero, suc, ◌+◌, ◌<◌, ◌==◌, true, false, true≢false, cond, List, [], ◌∷◌, ◌++◌, length, get_or, set, All}
+use Rattle.std.proofs.Common.{refl, sym, ap, ◌∙◌, subst, arith, inl, inr, ⊎_elim, length-set, eq-eqb, ne_eqb}
+use Rattle.std.proofs.lemmas.Bool.{cond-true, cond-false}
 use Rattle.std.proofs.lemmas.Option.{none-some}
 use Rattle.std.proofs.lemmas.List.Elements.{All-push, All-weaker}
 use mathlib.Core.Option.{some, some-ne-none, some-injective}
 use lib.ListN.{get_elem?}
 use Rattle.atomic_table.proofs.Lists.{at_set, set_else}
 use Rattle.epoch_core.specs.declared.lane.LaneState.{LaneState}
-use Rattle.epoch_core.specs.declared.lane.LaneState.TheVariants.{Idle, Holding}
-use Rattle.epoch_core.specs.Machine.{Machine, lane_state, words_of}
-use Rattle.region_store.specs.declared.view.Use.{Use}
+use Rattle.epoch_core.specs.declared.lane.LaneState.TheVariants.{Idle}
+use Rattle.epoch_core.specs.Machine.{Machine, lane_state}
 use Rattle.region_store.specs.declared.view.Shape.{Shape}
 use Rattle.region_store.specs.declared.view.LaneView.{LaneView}
 use Rattle.region_store.specs.declared.view.LoaderView.{LoaderView}
 use Rattle.region_store.specs.declared.view.View.{View}
 use Rattle.region_store.specs.Uses.{UsesFit, uses_in}
-use Rattle.region_store.specs.Rule.{LaneKnows, LoaderKnows, Knows, EachSeat, first_lane}
+use Rattle.region_store.specs.Rule.{LaneKnows, LoaderKnows, Knows, EachSeat}
 use Rattle.region_store.specs.Steps.{loader_side, lane_side, both_sides, spent_view}
 use Rattle.region_store.proofs.UseLaws.{uses_fit_longer}
 

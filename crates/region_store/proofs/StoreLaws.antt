@@ -1,26 +1,20 @@
 -- The rule holds at the start, and when seats are split and joined; and what is known once the store is closed.
-use Rattle.std.proofs.Common.{◌≡◌, ◌≢◌, ℕ, zero, suc, ◌+◌, ◌-◌, ◌*◌, ◌<◌, ◌≤◌, true, false, true≢false, List, [], ◌∷◌, ◌++◌, length, get_or, replicate, Option, None, All}
-use Rattle.std.proofs.Common.{refl, sym, ap, ◌∙◌, subst, arith, ⊎_elim}
+use Rattle.std.proofs.Common.{◌≡◌, ℕ, zero, suc, ◌+◌, ◌-◌, ◌*◌, ◌<◌, ◌≤◌, true, false, true≢false, List, [], ◌∷◌, length, get_or, replicate, All}
+use Rattle.std.proofs.Common.{refl, sym, ap, ◌∙◌, subst, arith}
 use Rattle.std.proofs.lemmas.Option.{none-some}
-use Rattle.std.proofs.lemmas.List.{length-replicate, get_or-replicate, append-nil}
+use Rattle.std.proofs.lemmas.List.{length-replicate}
 use Rattle.std.proofs.lemmas.List.Elements.{All-nil, All-cons}
-use mathlib.Core.Option.{none, some, some-ne-none, some-injective}
-use lib.ListN.{get_elem?}
-use Rattle.atomic_table.specs.Table.{State, opening, Splits, Joins, Final, Seen}
-use Rattle.atomic_table.specs.Table as table
-use Rattle.epoch_core.specs.declared.lane.LaneState.{LaneState}
+use mathlib.Core.Option.{some-ne-none, some-injective}
+use Rattle.atomic_table.specs.Table.{opening, Splits, Joins, Final, Seen}
 use Rattle.epoch_core.specs.declared.lane.LaneState.TheVariants.{Idle}
-use Rattle.epoch_core.specs.Machine.{Machine, first, lane_state, words_of, image_of, pin_of}
-use Rattle.epoch_core.specs.Rule.{BeginsWith}
-use Rattle.epoch_core.specs.Runs.{IsReached}
+use Rattle.epoch_core.specs.Machine.{Machine, first, words_of}
 use Rattle.region_store.specs.declared.view.Shape.{Shape}
 use Rattle.region_store.specs.declared.view.LaneView.{LaneView}
-use Rattle.region_store.specs.declared.view.LoaderView.{LoaderView}
 use Rattle.region_store.specs.declared.view.View.{View}
-use Rattle.region_store.specs.Layout.{published_word, epoch_word, pin_place, place_of, first_region, word_count}
+use Rattle.region_store.specs.Layout.{pin_place, place_of, first_region, word_count}
 use Rattle.region_store.specs.Images.{IsLike}
 use Rattle.region_store.specs.Uses.{UsesFit, uses_in}
-use Rattle.region_store.specs.Rule.{IsWithin, Words, LoaderKnows, Knows, EachSeat, KeptBy, Kept, first_view, first_loader}
+use Rattle.region_store.specs.Rule.{IsWithin, Words, Knows, EachSeat, KeptBy, Kept, first_view}
 use Rattle.region_store.specs.Steps.{loader_side, lane_side, both_sides, spent_view}
 use Rattle.region_store.specs.Store.{AreFirstWords, IsGathered}
 use Rattle.region_store.proofs.ReachedLaws.{EverySchedule, reached_rule}

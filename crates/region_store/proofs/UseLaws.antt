@@ -1,18 +1,16 @@
 -- How the uses of a lane fit the images, when an image is added, a version is held and a word is read.
-use Rattle.std.proofs.Common.{◌≡◌, ◌≢◌, ◌⊎◌, ℕ, ◌+◌, ◌<◌, ◌≤◌, ◌==◌, true, false, cond, List, [], ◌∷◌, ◌++◌, length, get_or, slice_get}
-use Rattle.std.proofs.Common.{Option, Some, None, All, AllPairs, option_to_list, refl, sym, ap, ◌∙◌, subst, arith, ⊎_elim, inl, inr, length-append, eq-eqb, ne_eqb, map}
+use Rattle.std.proofs.Common.{◌≡◌, ◌≢◌, ℕ, ◌+◌, ◌<◌, ◌≤◌, ◌==◌, cond, List, [], ◌∷◌, ◌++◌, length, get_or, slice_get}
+use Rattle.std.proofs.Common.{Some, All, AllPairs, refl, sym, ap, ◌∙◌, subst, arith, ⊎_elim, length-append, eq-eqb, ne_eqb}
 use Rattle.std.proofs.lemmas.Bool.{cases_eq, cond-true, cond-false}
 use Rattle.std.proofs.lemmas.List.{get_or_append_left, get_or_push, length-map}
 use Rattle.std.proofs.lemmas.Option.{slice_get-get_or}
-use Rattle.std.proofs.lemmas.List.Elements.{All-push, All-weaker, All-cons, All-head, All-tail, All-nil}
-use Rattle.bench_model.specs.declared.database.Bench.{Bench}
-use Rattle.image_words.specs.Knowledge.{Knowledge, Fits, SomeFits}
+use Rattle.std.proofs.lemmas.List.Elements.{All-push, All-weaker, All-cons, All-head, All-tail}
+use Rattle.image_words.specs.Knowledge.{SomeFits}
 use Rattle.region_store.specs.declared.view.Read.{Read}
 use Rattle.region_store.specs.declared.view.Use.{Use}
-use Rattle.region_store.specs.declared.view.LaneView.{LaneView}
 use Rattle.region_store.specs.Images.{IsLike, name_of, names_of}
 use Rattle.region_store.specs.Steps.{with_read}
-use Rattle.region_store.specs.Uses.{image_at, IsWordOf, UseFits, UsesFit, uses_in, known_in, knowledge_of}
+use Rattle.region_store.specs.Uses.{image_at, IsWordOf, UseFits, UsesFit, known_in, knowledge_of}
 
 -- what fits fits also where images are added
 pub use_fits_longer : (images more : List (List ℕ)) (u : Use) → UseFits images u → UseFits (images ++ more) u

@@ -1,10 +1,10 @@
 -- The words of a store show the machine after each of its steps.
-use Rattle.std.proofs.Common.{◌≡◌, ◌≢◌, ℕ, ◌+◌, ◌<◌, ◌≤◌, ◌==◌, true, false, List, [], ◌∷◌, ◌++◌, length, get_or, set, take, replicate, Option, Some, None}
-use Rattle.std.proofs.Common.{refl, sym, ap, ◌∙◌, subst, arith, ⊎_elim, length-set, length-append, get_or-set_same, get_or-set_other, eq-eqb, ne_eqb, if◌then◌else◌}
+use Rattle.std.proofs.Common.{◌≡◌, ◌≢◌, ℕ, ◌+◌, ◌<◌, ◌≤◌, List, [], ◌∷◌, ◌++◌, length, get_or, set}
+use Rattle.std.proofs.Common.{sym, ap, ◌∙◌, subst, arith, ⊎_elim, length-set, length-append, get_or-set_same, get_or-set_other, eq-eqb, ne_eqb, if◌then◌else◌}
 use Rattle.std.proofs.lemmas.Bool.{cases_eq}
 use Rattle.std.proofs.lemmas.List.{set-get_or, get_or_append_left, get_or_push}
 use Rattle.epoch_core.specs.declared.lane.LaneState.{LaneState}
-use Rattle.epoch_core.specs.Machine.{Machine, pin_of, words_of, image_of}
+use Rattle.epoch_core.specs.Machine.{Machine, words_of, image_of}
 use Rattle.epoch_core.specs.declared.step.Step.TheVariants.{W1, W2, W3, W4}
 use Rattle.epoch_core.specs.Steps.{after, stored}
 use Rattle.region_store.specs.Layout.{published_word, epoch_word, pin_place, place_of, packed, word_count, most_lanes}

@@ -1,12 +1,11 @@
 -- A store, its seats and a pin, as their callers see them.
-use Rattle.std.specs.Prelude.{◌≡◌, ℕ, ◌+◌, ◌≤◌, List, [], ◌∷◌, ◌++◌}
+use Rattle.std.specs.Prelude.{◌≡◌, ℕ, List, ◌++◌}
 use Rattle.atomic_table.specs.Seated.{TableId}
 use Rattle.image_words.specs.Knowledge.{Knowledge}
 use Rattle.region_store.specs.declared.store.Store.{Store}
 use Rattle.region_store.specs.declared.lane.LaneSeat.{LaneSeat}
 use Rattle.region_store.specs.declared.pinned.Pinned.{Pinned}
 use Rattle.region_store.specs.declared.view.Did.{Did}
-use Rattle.region_store.specs.declared.view.Did.TheVariants as did
 use Rattle.region_store.specs.declared.view.Read.{Read}
 use Rattle.region_store.specs.declared.view.Use.{Use}
 use Rattle.region_store.specs.declared.view.Shape.{Shape}

@@ -1,6 +1,6 @@
 -- Which images a store takes: each encodes a valid bench whose buses have the names and kinds of those of the
 -- first image, in order.
-use Rattle.std.specs.Prelude.{◌≡◌, ℕ, List, map, length}
+use Rattle.std.specs.Prelude.{◌≡◌, ℕ, List, map}
 use Rattle.bench_model.specs.declared.database.Kind.{Kind}
 use Rattle.bench_model.specs.declared.database.Bus.{Bus}
 use Rattle.bench_model.specs.declared.database.Bench.{Bench}

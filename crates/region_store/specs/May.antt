@@ -1,10 +1,9 @@
 -- Where each step of a seat may be made, by what the seat knows.
-use Rattle.std.specs.Prelude.{◌≡◌, ◌≢◌, ◌⊎◌, ℕ, ◌+◌, ◌<◌, ◌≤◌, true, length, Option, Some, None}
+use Rattle.std.specs.Prelude.{◌≡◌, ◌≢◌, ◌⊎◌, ℕ, ◌+◌, ◌<◌, true, length, Some, None}
 use Rattle.epoch_core.specs.declared.lane.LaneState.TheVariants.{Idle, Loaded, Pinned, Holding}
 use Rattle.epoch_core.specs.Machine.{pin_for}
 use Rattle.region_store.specs.declared.view.Use.{Use}
 use Rattle.region_store.specs.declared.view.View.{View}
-use Rattle.region_store.specs.Images.{IsLike}
 use Rattle.region_store.specs.Layout.{pin_place, place_of, packed}
 use Rattle.region_store.specs.Steps.{retirement_of, is_clear}
 

@@ -1,16 +1,13 @@
--- What the loader does when it publishes.
+-- What the loader finds of the regions before it publishes, and what it has stored into one.
 use Rattle.std.specs.Prelude.{◌≡◌, ◌≢◌, ℕ, zero, suc, ◌+◌, ◌-◌, ◌*◌, ◌<◌, ◌≤◌, ◌==◌, cond, List, [], ◌∷◌, ◌++◌, length, map, take, slice_index, All}
 use Rattle.std.specs.Prelude.{Contains, Option, Some, None, Result, Ok, Err}
 use Rattle.region_store.specs.declared.loader.Holder.{Holder}
 use Rattle.region_store.specs.declared.loader.Holders.{Holders}
-use Rattle.region_store.specs.declared.loader.PublishRefused.{PublishRefused}
-use Rattle.region_store.specs.declared.loader.PublishRefused.TheVariants.{VersionsSpent, Busy}
 use Rattle.region_store.specs.declared.view.Did.{Did}
 use Rattle.region_store.specs.declared.view.Did.TheVariants as did
-use Rattle.region_store.specs.declared.view.Shape.{Shape}
 use Rattle.region_store.specs.declared.view.LoaderView.{LoaderView}
 use Rattle.region_store.specs.declared.view.View.{View}
-use Rattle.region_store.specs.Layout.{published_word, epoch_word, pin_place, place_of, packed}
+use Rattle.region_store.specs.Layout.{pin_place, place_of}
 use Rattle.region_store.specs.Steps.{retirement_of}
 use Rattle.region_store.specs.May.{IsFree}
 
@@ -24,7 +21,7 @@ pub record Looked (more : List Did) (v w : View) : Type 0 where
   pub same : w ≡ record v { loader = record v.loader { cleared = w.loader.cleared; steps = v.loader.steps ++ more } }
 
 -- a lane that may hold a region that was retired: its pin was loaded among these steps, and is 1 or more and at most
--- one above the epoch of the retirement plus 1
+-- one above the epoch of the retirement
 pub record IsHolder (more : List Did) (lanes : ℕ) (v : LoaderView) (h : Holder) : Type 0 where
   pub lane_low : h.lane < lanes
   pub epoch : ℕ
@@ -75,35 +72,6 @@ pub record FoundRegion (v w : View) (result : Result ℕ Holders) : Type 0 where
   pub few : length more ≤ (v.shape.regions - 1) * v.shape.lanes
   pub looked : Looked more v w
   pub answer : AnswerOf more v w result
-
--- a publication: the loader stored the image's words into the region that it found, then the published word, then
--- the epoch
-pub record IsPublished (image : List ℕ) (more : List Did) (v w : View) (version : ℕ) : Type 0 where
-  pub region : ℕ
-  pub there : region < v.shape.regions
-  pub spare : region ≢ v.loader.region
-  pub version_is : version ≡ v.loader.version + 1
-  pub now : w.loader.version ≡ version
-  pub region_is : w.loader.region ≡ region
-  pub images : w.loader.images ≡ v.loader.images ++ image ∷ []
-  pub steps :
-      w.loader.steps
-      ≡ v.loader.steps ++ more ++ stores_of (place_of v.shape.room region 0) image (length image)
-      ++ (did.Stored published_word (packed version region (length image)) ∷ did.Stored epoch_word version ∷ [])
-
--- each answer with its cause, where the last version is this one. No version follows the last; else lanes may hold all
--- other regions; else the image is published. After a refusal nothing but loads of pins was done.
-abbrev pub PublishAnswer : ℕ → List ℕ → List Did → View → View → Result ℕ PublishRefused → Type 0
-PublishAnswer last image more v w (Ok version) = (v.loader.version ≢ last) × IsPublished image more v w version
-PublishAnswer last image more v w (Err VersionsSpent) = (v.loader.version ≡ last) × (more ≡ []) × (w ≡ v)
-PublishAnswer last image more v w (Err (Busy hs)) =
-    (v.loader.version ≢ last) × AreHolders more v v.shape.regions hs.each.items × Looked more v w
-
-pub record Publishes (last : ℕ) (image : List ℕ) (v w : View) (result : Result ℕ PublishRefused) : Type 0 where
-  pub more : List Did
-  pub few : length more ≤ (v.shape.regions - 1) * v.shape.lanes
-  pub pins : All (IsPinLoad v.shape.lanes) more
-  pub answer : PublishAnswer last image more v w result
 
 -- the loader has stored the first words of an image into a region
 abbrev pub written : ℕ → List ℕ → ℕ → View → View

@@ -1,5 +1,5 @@
 -- Reading nothing, and one reading after another.
-use Rattle.std.proofs.Common.{◌≡◌, List, [], ◌++◌, refl, sym, ap, ◌∙◌}
+use Rattle.std.proofs.Common.{List, [], ◌++◌, refl, sym, ap, ◌∙◌}
 use Rattle.std.proofs.lemmas.List.{append-nil, append_assoc}
 use Rattle.region_store.specs.declared.pinned.Pinned.{Pinned}
 use Rattle.region_store.specs.declared.view.Read.{Read}

@@ -1,12 +1,12 @@
 -- The rule of a store: its words and its seats show a state of the region machine that a schedule reaches, and
 -- each image is of the kind that the store takes. It holds between any two steps.
-use Rattle.std.specs.Prelude.{◌≡◌, ℕ, ◌+◌, ◌-◌, ◌<◌, ◌≤◌, true, false, List, [], ◌∷◌, length, replicate, slice_index}
-use Rattle.std.specs.Prelude.{All, Option, Some, None}
+use Rattle.std.specs.Prelude.{◌≡◌, ℕ, ◌-◌, ◌<◌, ◌≤◌, true, false, List, [], ◌∷◌, length, replicate, slice_index}
+use Rattle.std.specs.Prelude.{All, Some, None}
 use mathlib.Core.Option.{some}
 use lib.ListN.{get_elem?}
 use Rattle.atomic_table.specs.Table.{State}
 use Rattle.epoch_core.specs.declared.lane.LaneState.TheVariants.{Idle, Holding}
-use Rattle.epoch_core.specs.Machine.{Machine, first, lane_state, pin_of, words_of, image_of}
+use Rattle.epoch_core.specs.Machine.{Machine, lane_state, pin_of, words_of, image_of}
 use Rattle.epoch_core.specs.Rule.{BeginsWith}
 use Rattle.epoch_core.specs.Runs.{IsReached}
 use Rattle.region_store.specs.declared.view.Use.{Use}

@@ -1,6 +1,6 @@
 -- What each step of a seat changes in its view, and what it shows. Each step enters the word that it loaded or
 -- stored in its seat's steps, whichever word that was.
-use Rattle.std.specs.Prelude.{◌≡◌, ℕ, ◌+◌, ◌-◌, ◌<◌, ◌≤◌, ◌||◌, Bool, All, true, false, List, [], ◌∷◌, ◌++◌, length}
+use Rattle.std.specs.Prelude.{◌≡◌, ℕ, ◌+◌, ◌-◌, ◌<◌, ◌≤◌, ◌||◌, Bool, All, true, false, List, [], ◌∷◌, ◌++◌}
 use Rattle.std.specs.Prelude.{replicate, slice_set, slice_index_or, option_map, option_to_list, Option, Some, None}
 use Rattle.atomic_table.specs.Table.{Me, Step}
 use Rattle.epoch_core.specs.declared.lane.LaneState.{LaneState}
@@ -9,7 +9,6 @@ use Rattle.epoch_core.specs.Steps.{loaded_epoch, is_past}
 use Rattle.image_words.specs.Knowledge.{SomeFits}
 use Rattle.region_store.specs.declared.view.Did.{Did}
 use Rattle.region_store.specs.declared.view.Did.TheVariants as did
-use Rattle.region_store.specs.declared.view.Read.{Read}
 use Rattle.region_store.specs.declared.view.Use.{Use}
 use Rattle.region_store.specs.declared.view.Shape.{Shape}
 use Rattle.region_store.specs.declared.view.LaneView.{LaneView}

@@ -25,7 +25,7 @@ mod view;
 mod writing;
 
 pub use lane::LaneSeat;
-pub use loader::{Holder, Holders, LoaderSeat, PublishRefused};
+pub use loader::{Holder, Holders, LoaderSeat};
 pub use pinned::Pinned;
 pub use shelf::Shelf;
 pub use store::Store;

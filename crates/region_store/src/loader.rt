@@ -1,10 +1,9 @@
-//! The loader's seat, and what a publication is refused with.
+//! The loader's seat, and the lanes that may hold what it would write.
 ghost use Rattle.std.specs.Prelude.{◌≡◌};
 ghost use Rattle.region_store.specs.Store.{LoaderRests};
 
 use crate::view::Place;
 use arrayvec::ArrayVec;
-use thiserror::Error;
 
 /// The right to publish into a store.
 #[derive(Drop)]
@@ -19,7 +18,7 @@ pub struct LoaderSeat {
 }
 
 /// A lane that may hold a region that was retired: its pin is 1 or more, and at most one above the epoch of the
-/// retirement plus 1.
+/// retirement.
 #[derive(Clone, Copy, Debug, Default, PartialEq, Eq)]
 pub struct Holder {
     pub region: u32,
@@ -33,15 +32,4 @@ pub(crate) const MOST_REGIONS: usize = 8;
 #[derive(Debug, Drop)]
 pub struct Holders {
     pub(crate) each: ArrayVec<Holder, MOST_REGIONS>,
-}
-
-/// Why an image was not published.
-#[derive(Debug, Drop, Error)]
-pub enum PublishRefused {
-    /// The published version is the last one.
-    #[error("the last version is published")]
-    VersionsSpent,
-    /// Each region but the published one may be held by a lane.
-    #[error("each region may be held by a lane")]
-    Busy { holders: Holders },
 }

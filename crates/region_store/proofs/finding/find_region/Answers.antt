@@ -1,11 +1,11 @@
-use Rattle.std.proofs.Common.{◌≡◌, ◌≢◌, ℕ, ◌+◌, ◌-◌, ◌*◌, ◌<◌, ◌≤◌, List, [], ◌++◌, length, None, refl, sym, ap, ◌∙◌, subst, arith, length-append, ⊎_elim, inl, inr}
+use Rattle.std.proofs.Common.{◌≡◌, ◌≢◌, ℕ, ◌+◌, ◌-◌, ◌*◌, ◌<◌, ◌≤◌, List, [], ◌++◌, length, sym, ap, ◌∙◌, subst, arith, length-append, ⊎_elim, inl, inr}
 use Rattle.std.proofs.lemmas.Bool.{cases_eq}
 use Rattle.std.proofs.lemmas.Bool.Decides.{leb_tells}
 use Rattle.region_store.specs.declared.loader.Holder.{Holder}
 use Rattle.region_store.specs.declared.view.Shape.{Shape}
 use Rattle.region_store.specs.declared.view.View.{View}
 use Rattle.region_store.specs.Publishing.{AreHolders, spare_below}
-use Rattle.region_store.proofs.LookLaws.{looked_none, looked_then, spare_none, spare_skip, spare_more, spare_length, loads_more, loads_fit, holders_none, holders_skip, holders_more, holders_few, holder_back}
+use Rattle.region_store.proofs.LookLaws.{looked_none, looked_then, spare_skip, spare_more, spare_length, loads_more, loads_fit, holders_none, holders_skip, holders_more, holders_few, holder_back}
 use Rattle.region_store.proofs.finding.find_region.Goals as goal
 
 -- the regions before a spare one are fewer than the spare ones

@@ -1,4 +1,4 @@
-use Rattle.std.proofs.Common.{◌≡◌, ℕ, ◌*◌, ◌≤◌, List, length}
+use Rattle.std.proofs.Common.{◌*◌, ◌≤◌, List, length}
 use Rattle.region_store.specs.declared.view.Did.{Did}
 use Rattle.region_store.specs.Store.{IsOn}
 use Rattle.region_store.specs.Publishing.{Looked, AreHolders, spare_below}

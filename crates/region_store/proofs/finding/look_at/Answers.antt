@@ -1,12 +1,11 @@
-use Rattle.std.proofs.Common.{◌≡◌, ℕ, ◌+◌, ◌<◌, ◌≤◌, not, List, [], ◌∷◌, ◌++◌, length, Option, Some, Contains, refl, sym, ap, ◌∙◌, subst, arith, length-append}
+use Rattle.std.proofs.Common.{◌≡◌, ℕ, ◌+◌, ◌<◌, not, [], ◌∷◌, ◌++◌, Some, Contains, refl, sym, ap, ◌∙◌, subst, arith, length-append}
 use Rattle.std.proofs.lemmas.List.Elements.{Contains-push}
 use Rattle.epoch_core.specs.Steps.{is_past}
-use Rattle.region_store.specs.declared.view.Did.{Did}
 use Rattle.region_store.specs.declared.view.Did.TheVariants as did
 use Rattle.region_store.specs.declared.view.Shape.{Shape}
 use Rattle.region_store.specs.declared.view.View.{View}
 use Rattle.region_store.specs.Steps.{retirement_of}
-use Rattle.region_store.specs.Layout.{lane_at, pin_place}
+use Rattle.region_store.specs.Layout.{lane_at}
 use Rattle.region_store.proofs.PlaceLaws.{count_high, pin_low, lane_back}
 use Rattle.region_store.proofs.LookLaws.{announced, looked_then, looked_one, cleared_more}
 use Rattle.region_store.proofs.finding.look_at.Goals as goal

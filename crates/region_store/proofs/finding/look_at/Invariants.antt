@@ -1,4 +1,4 @@
-use Rattle.std.proofs.Common.{◌≡◌, ℕ, ◌<◌, ◌≤◌, List, length, true}
+use Rattle.std.proofs.Common.{◌≡◌, ℕ, ◌<◌, List, length, true}
 use Rattle.region_store.specs.declared.view.Did.{Did}
 use Rattle.region_store.specs.Steps.{is_clear}
 use Rattle.region_store.specs.Store.{IsOn}

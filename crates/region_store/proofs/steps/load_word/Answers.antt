@@ -1,6 +1,4 @@
-use Rattle.std.proofs.Common.{arith}
 use Rattle.region_store.proofs.LaneLaws.{sees_word}
-use Rattle.region_store.proofs.PlaceLaws.{count_high}
 use Rattle.region_store.proofs.steps.load_word.Goals as goal
 
 pub load-requires : goal.load-requires

@@ -1,6 +1,4 @@
-use Rattle.std.proofs.Common.{arith}
 use Rattle.region_store.proofs.LaneLaws.{lets_go}
-use Rattle.region_store.proofs.PlaceLaws.{count_high}
 use Rattle.region_store.proofs.steps.store_none.Goals as goal
 
 pub store-requires : goal.store-requires

@@ -1,6 +1,4 @@
-use Rattle.std.proofs.Common.{arith}
 use Rattle.region_store.proofs.LaneLaws.{stores_pin}
-use Rattle.region_store.proofs.PlaceLaws.{count_high}
 use Rattle.region_store.proofs.steps.store_pin.Goals as goal
 
 pub store-requires : goal.store-requires

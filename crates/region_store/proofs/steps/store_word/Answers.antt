@@ -1,10 +1,8 @@
-use Rattle.std.proofs.Common.{ℕ, sym, subst, arith}
+use Rattle.std.proofs.Common.{ℕ, sym, subst}
 use mathlib.Core.Option.{none}
 use Rattle.atomic_table.specs.Table.{step, Allows}
 use Rattle.region_store.specs.Rule.{Kept}
-use Rattle.region_store.specs.Layout.{published_word}
 use Rattle.region_store.proofs.LoaderLaws.{stores_word}
-use Rattle.region_store.proofs.PlaceLaws.{count_high}
 use Rattle.region_store.specs.Steps.{LoaderStores, stored_word}
 use Rattle.region_store.proofs.steps.store_word.Goals as goal
 

@@ -1,4 +1,4 @@
-use Rattle.std.proofs.Common.{◌≡◌, ℕ, ◌+◌, ◌<◌, ◌≤◌, List, length, refl, sym, ap, ◌∙◌, arith}
+use Rattle.std.proofs.Common.{◌≡◌, ℕ, ◌+◌, ◌<◌, refl, sym, ap, ◌∙◌, arith}
 use Rattle.region_store.specs.declared.view.Shape.{Shape}
 use Rattle.region_store.specs.declared.view.View.{View}
 use Rattle.region_store.specs.Layout.{place_of, word_count}

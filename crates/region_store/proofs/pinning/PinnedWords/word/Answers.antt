@@ -1,12 +1,10 @@
-use Rattle.std.proofs.Common.{◌≡◌, ℕ, ◌+◌, ◌-◌, ◌<◌, List, [], ◌∷◌, ◌++◌, refl, sym, ap, ◌∙◌, arith}
+use Rattle.std.proofs.Common.{◌≡◌, ℕ, ◌+◌, ◌-◌, ◌<◌, [], ◌∷◌, refl, sym, ap, ◌∙◌, arith}
 use Rattle.region_store.specs.declared.pinned.Pinned.{Pinned}
 use Rattle.region_store.specs.declared.view.View.{View}
 use Rattle.region_store.specs.declared.view.Shape.{Shape}
-use Rattle.region_store.specs.declared.view.Use.{Use}
-use Rattle.region_store.specs.declared.view.Did.TheVariants as did
 use Rattle.region_store.specs.Layout.{place_of, word_count}
 use Rattle.region_store.specs.Uses.{use_held}
-use Rattle.region_store.specs.Steps.{at_in, region_held, with_read}
+use Rattle.region_store.specs.Steps.{at_in, region_held}
 use Rattle.region_store.proofs.PlaceLaws.{place_low, place_more, place_back, count_low}
 use Rattle.region_store.proofs.ReadLaws.{word_learns, pin_after}
 use Rattle.region_store.proofs.pinning.PinnedWords.word.Goals as goal

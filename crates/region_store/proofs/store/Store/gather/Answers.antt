@@ -1,4 +1,4 @@
-use Rattle.std.proofs.Common.{◌≡◌, sym, ap, ◌∙◌, subst}
+use Rattle.std.proofs.Common.{sym, ap, ◌∙◌, subst}
 use Rattle.region_store.specs.declared.view.View.{View}
 use Rattle.region_store.specs.Store.{Place, IsGathered}
 use Rattle.region_store.proofs.StoreLaws.{closes}

@@ -1,7 +1,7 @@
 use Rattle.std.proofs.Common.{◌≡◌, ℕ, List, [], ◌++◌, refl, sym, ap, ◌∙◌, subst, arith, get_or}
 use Rattle.region_store.specs.declared.view.Shape.{Shape}
 use Rattle.atomic_table.specs.Table.{opening}
-use Rattle.region_store.specs.Rule.{IsWithin, Kept, first_view}
+use Rattle.region_store.specs.Rule.{Kept, first_view}
 use Rattle.region_store.specs.Store.{AreFirstWords}
 use Rattle.region_store.proofs.FirstLaws.{like_itself}
 use Rattle.region_store.proofs.StoreLaws.{starts}
