@@ -20,6 +20,10 @@ key_number key = if key.extended then key.id + extended_from else key.id
 abbrev pub position_span : ℕ
 position_span = 131072
 
+-- numbers of keys and of groups lie below this limit, so that an entry has at most 63 bits
+abbrev pub number_limit : ℕ
+number_limit = 2 ^ 46
+
 -- one entry for each message, by its key, where the first message has this position
 unfoldable pub key_entries : ℕ → List Message → List ℕ
 key_entries position [] = []

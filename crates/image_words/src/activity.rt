@@ -11,6 +11,7 @@ ghost use Rattle.image_words.specs.Reading.{Learned, EachHas, EachIs, RangesAt, 
 
 use crate::Words;
 use crate::choices::is_in_ranges;
+use crate::layout::SIGNAL_WORDS;
 use crate::rows::{Level, level_at};
 use crate::shape::Shape;
 use multiplex_tree::activity_by_steps;
@@ -68,7 +69,7 @@ fn step_up<W: Words>(
         return Step::Top;
     }
     let parent = level.parent - 1;
-    let above = level_at(words, at + 12 * parent);
+    let above = level_at(words, at + SIGNAL_WORDS * parent);
     if !selects(words, level.ranges_at, level.ranges, above.shape, bytes) {
         return Step::PassedOver;
     }

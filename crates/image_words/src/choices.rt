@@ -12,9 +12,13 @@ ghost use Rattle.image_words.specs.Knowledge.{SomeFits};
 ghost use Rattle.image_words.specs.Reading.{Learned, EachHas, EachIs, RangesAt, LabelsAt, EntriesAt, scale_of, IsLabelRow, IsEntryRow};
 
 use crate::Words;
+use crate::layout::{ENTRY_WORDS, LABEL_WORDS, RANGE_WORDS};
 use crate::rows::read_words;
 use exact_scale::Scale;
 use multiplex_tree::Range;
+
+/// What a word counts.
+const WORD_SPAN: i128 = 1 << 64;
 
 /// A label: its raw value, and a reference to its text.
 #[derive(Clone, Copy)]
@@ -58,8 +62,8 @@ fn range_at<W: Words>(words: &mut W, at: usize, count: usize, i: usize) -> Range
         (λ image ranges. slice_get ranges i ≡ Some result) }
 {
     let _size = words.len();
-    let mut row = [0; 2];
-    read_words(words, at + 2 * i, &mut row);
+    let mut row = [0; RANGE_WORDS];
+    read_words(words, at + RANGE_WORDS * i, &mut row);
     Range {
         low: row[0],
         high: row[1],
@@ -72,7 +76,7 @@ fn label_raw(bits: u64, negative: bool) -> i128
     ensures bound { (neg_ℤ (pos word_span) ≤ℤ result) × (result <ℤ pos word_span) }
 {
     if negative {
-        i128::from(bits) - (1i128 << 64)
+        i128::from(bits) - WORD_SPAN
     } else {
         i128::from(bits)
     }
@@ -88,8 +92,8 @@ fn label_at<W: Words>(words: &mut W, at: usize, count: usize, i: usize) -> Label
         (λ image labels. IsLabelRow image labels i result) }
 {
     let _size = words.len();
-    let mut row = [0; 3];
-    read_words(words, at + 3 * i, &mut row);
+    let mut row = [0; LABEL_WORDS];
+    read_words(words, at + LABEL_WORDS * i, &mut row);
     LabelRow {
         raw: label_raw(row[0], row[1] == 1),
         text: row[2],
@@ -106,8 +110,8 @@ pub(crate) fn entry_at<W: Words>(words: &mut W, at: usize, count: usize, i: usiz
         (λ image entries. IsEntryRow image entries i result) }
 {
     let _size = words.len();
-    let mut row = [0; 7];
-    read_words(words, at + 7 * i, &mut row);
+    let mut row = [0; ENTRY_WORDS];
+    read_words(words, at + ENTRY_WORDS * i, &mut row);
     EntryRow {
         kind: row[0],
         low: row[1],

@@ -10,6 +10,7 @@ ghost use Rattle.image_words.specs.Reading.{Learned, EachHas, EachIs, EntriesAt,
 
 use crate::Words;
 use crate::choices::{EntryRow, entry_at, label_of, scale_of};
+use crate::layout::{LISTED, LOGICAL, PHYSICAL, PLAIN};
 use crate::rows::CodingRow;
 use exact_scale::Exact;
 
@@ -36,7 +37,7 @@ fn itself(raw: i128, label: u64) -> Coded
 fn is_covered(entry: EntryRow, raw: i128) -> bool
     ensures { (image : List ℕ) (e : Entry) → IsEntryOf entry image e → covers raw e ≡ result }
 {
-    entry.kind == 2 || i128::from(entry.low) <= raw && raw <= i128::from(entry.high)
+    entry.kind == PLAIN || i128::from(entry.low) <= raw && raw <= i128::from(entry.high)
 }
 
 /// What an entry makes of a raw value.
@@ -46,8 +47,8 @@ fn entry_value(entry: EntryRow, raw: i128) -> Coded
     ensures { (image : List ℕ) (e : Entry) → IsEntryOf entry image e → IsCoded image result (entry_meaning raw (Some e)) }
 {
     match entry.kind {
-        0 => itself(raw, entry.text),
-        1 => Coded {
+        LOGICAL => itself(raw, entry.text),
+        PHYSICAL => Coded {
             value: scale_of(entry.factor, entry.offset, entry.places).apply(raw),
             unit: entry.text,
             label: 0,
@@ -83,7 +84,7 @@ pub(crate) fn coded_value<W: Words>(words: &mut W, row: CodingRow, raw: i128) ->
     ensures coded { EachIs (W.knows words.new) (CodingOf row)
         (λ image coding. IsCoded image result (coding_meaning coding raw)) }
 {
-    if row.kind == 1 {
+    if row.kind == LISTED {
         return listed_value(words, row.choices_at, row.choices, raw);
     }
     let label = label_of(words, row.choices_at, row.choices, raw);

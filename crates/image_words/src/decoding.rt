@@ -10,6 +10,7 @@ ghost use Rattle.image_words.specs.Found.{BusOf};
 
 use crate::Words;
 use crate::activity::is_active;
+use crate::layout::{BUS_WORDS, HEADER_WORDS, MESSAGE_WORDS, SIGNAL_WORDS};
 use crate::matching::matching;
 use crate::rows::{BusRow, bus_row, message_row, signal_row};
 use crate::values::{text_of, value_of};
@@ -21,6 +22,7 @@ use std::alloc::{AllocError, Global};
 fn signal_at<W: Words>(
     alloc: Global,
     words: &mut W,
+    buffer: &mut Vec<u8>,
     at: usize,
     count: usize,
     place: usize,
@@ -34,14 +36,14 @@ fn signal_at<W: Words>(
         (λ image m. IsValueAt bytes.now m place value)) }
 {
     let _size = words.len();
-    let row = signal_row(words, at + 12 * place);
+    let row = signal_row(words, at + SIGNAL_WORDS * place);
     if !is_active(words, at, count, place, row.level, bytes) {
         return Ok(None);
     }
     let Some(raw) = row.level.shape.raw(bytes) else {
         return Ok(None);
     };
-    let value = value_of(alloc, words, row, raw)?;
+    let value = value_of(alloc, words, buffer, row, raw)?;
     Ok(Some(value))
 }
 
@@ -59,6 +61,7 @@ fn push_some(values: &mut Vec<SignalValue>, value: Option<SignalValue>) -> Resul
 fn signals_of<W: Words>(
     alloc: Global,
     words: &mut W,
+    buffer: &mut Vec<u8>,
     at: usize,
     count: usize,
     bytes: &[u8],
@@ -71,7 +74,7 @@ fn signals_of<W: Words>(
 {
     let mut values = Vec::new(alloc);
     for place in 0..count {
-        let value = signal_at(alloc, words, at, count, place, bytes)?;
+        let value = signal_at(alloc, words, buffer, at, count, place, bytes)?;
         push_some(&mut values, value)?;
     }
     Ok(values)
@@ -91,8 +94,16 @@ fn message_of<W: Words>(
         (λ image m. plain ≡ message_meaning bytes.now m)) }
 {
     let row = message_row(words, at);
-    let name = text_of(alloc, words, row.name)?;
-    let signals = signals_of(alloc, words, row.signals_at, row.signals, bytes)?;
+    let mut buffer = Vec::new(alloc);
+    let name = text_of(alloc, words, &mut buffer, row.name)?;
+    let signals = signals_of(
+        alloc,
+        words,
+        &mut buffer,
+        row.signals_at,
+        row.signals,
+        bytes,
+    )?;
     Ok(Plain {
         name,
         signals: List::of(signals),
@@ -110,7 +121,7 @@ fn bus_at<W: Words>(words: &mut W, bus: u32) -> BusRow
     valid_is_decodable();
     valid_keeps_rules();
     let _size = words.len();
-    bus_row(words, 2 + 7 * bus as usize)
+    bus_row(words, HEADER_WORDS + BUS_WORDS * bus as usize)
 }
 
 /// What bytes mean on a bus, where a message of its database matches: the meaning under the bench of each
@@ -138,6 +149,11 @@ pub fn decode<W: Words>(
     let Some(position) = matching(words, row, ask) else {
         return Ok(None);
     };
-    let plain = message_of(alloc, words, row.messages_at + 5 * position, bytes)?;
+    let plain = message_of(
+        alloc,
+        words,
+        row.messages_at + MESSAGE_WORDS * position,
+        bytes,
+    )?;
     Ok(Some(plain))
 }

@@ -5,6 +5,9 @@ ghost use Rattle.bench_model.specs.Shifts.{little_endian as little, big_endian a
 
 use bench_model::bytes_as_number;
 
+/// What a byte counts.
+const BYTE_SPAN: u128 = 256;
+
 /// At most nine bytes as one number, the first byte the lowest.
 pub(crate) fn little_endian(bytes: &[u8]) -> u128
     requires { length bytes.now ≤ 9 }
@@ -15,7 +18,7 @@ pub(crate) fn little_endian(bytes: &[u8]) -> u128
     let mut i = bytes.len();
     while i > 0 {
         i -= 1;
-        number = number * 256 + u128::from(bytes[i]);
+        number = number * BYTE_SPAN + u128::from(bytes[i]);
     }
     number
 }
@@ -28,7 +31,7 @@ pub(crate) fn big_endian(bytes: &[u8]) -> u128
     bytes_as_number();
     let mut number = 0;
     for byte in bytes {
-        number = number * 256 + u128::from(*byte);
+        number = number * BYTE_SPAN + u128::from(*byte);
     }
     number
 }

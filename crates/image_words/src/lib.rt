@@ -15,7 +15,9 @@ mod decoding;
 mod index;
 mod joining;
 mod laws;
+pub mod layout;
 mod matching;
+mod numbers;
 mod raw;
 mod rows;
 mod shape;
@@ -27,6 +29,7 @@ pub use decoding::decode;
 pub use laws::{
     knowledge_narrows, known_words_decide, one_encoded, signals_have_rows, whole_list_fits,
 };
+pub use numbers::{group_of, key_number_of};
 pub use raw::raw_of;
 pub use words::Words;
 

@@ -2,39 +2,17 @@
 
 ghost use Rattle.std.specs.Prelude.{◌≡◌, None, find};
 ghost use Rattle.bench_model.specs.declared.reading.Ask.TheVariants as ask;
-ghost use Rattle.bench_model.specs.Meaning.{group_of as group, has_key, matching};
+ghost use Rattle.bench_model.specs.Meaning.{has_key, matching};
 ghost use Rattle.image_words.specs.Knowledge.{SomeFits};
-ghost use Rattle.image_words.specs.Index.{key_number};
 ghost use Rattle.image_words.specs.Reading.{Learned, EachHas, EachIs};
 ghost use Rattle.image_words.specs.Found.{BusOf, IsFoundAt};
 
 use crate::Words;
 use crate::index::position_of;
+use crate::layout::J1939_BUS;
+use crate::numbers::{group_of, key_number_of};
 use crate::rows::BusRow;
 use bench_model::{Ask, Key};
-
-/// The number that a J1939 bus's row has as its kind.
-const J1939: u64 = 1;
-
-/// The parameter group number of a 29-bit identifier (SAE J1939-21): with a PDU format below 240 the PDU
-/// specific byte is an address and counts as 0.
-fn group_of(id: u32) -> u32
-    ensures { result ≡ group id }
-{
-    if (id / 65_536) % 256 < 240 {
-        (id / 65_536) % 1_024 * 256
-    } else {
-        (id / 256) % 262_144
-    }
-}
-
-/// The number by which the index has a key.
-fn number_of(key: Key) -> u64
-    ensures { result ≡ key_number key }
-{
-    let id = u64::from(key.id);
-    if key.extended { id + (1 << 32) } else { id }
-}
 
 /// The position of the first message of an identifier.
 fn by_key<W: Words>(words: &mut W, row: BusRow, key: Key) -> Option<usize>
@@ -44,7 +22,7 @@ fn by_key<W: Words>(words: &mut W, row: BusRow, key: Key) -> Option<usize>
     ensures position { EachIs (W.knows words.new) (BusOf row)
         (λ image bus. IsFoundAt bus.database.messages result (find (has_key key) bus.database.messages)) }
 {
-    position_of(words, row.keys_at, row.messages, number_of(key))
+    position_of(words, row.keys_at, row.messages, key_number_of(key))
 }
 
 /// The position of the first extended message of a parameter group, which only a J1939 bus finds.
@@ -55,7 +33,7 @@ fn by_group<W: Words>(words: &mut W, row: BusRow, pgn: u32) -> Option<usize>
     ensures position { EachIs (W.knows words.new) (BusOf row)
         (λ image bus. IsFoundAt bus.database.messages result (matching bus.kind (ask.Group pgn) bus.database.messages)) }
 {
-    if row.kind != J1939 {
+    if row.kind != J1939_BUS {
         return None;
     }
     position_of(words, row.groups_at, row.groups, u64::from(pgn))

@@ -7,6 +7,7 @@ ghost use Rattle.image_words.specs.Knowledge.{SomeFits, Holds};
 ghost use Rattle.image_words.specs.Reading.{Learned, EachHas, SignalAt, AreWords, shape_of, IsDecodableShape, IsBusRow, IsMessageRow, IsLevel, IsCodingRow, IsSignalRow};
 
 use crate::Words;
+use crate::layout::{BUS_WORDS, MESSAGE_WORDS, SIGNAL_WORDS};
 use crate::shape::Shape;
 
 /// A bus's row without its name.
@@ -78,7 +79,7 @@ pub(crate) fn bus_row<W: Words>(words: &mut W, at: usize) -> BusRow
     ensures learned { Learned W.knows W.reads words.old words.new }
     ensures row { Holds (W.knows words.new) (λ image bench. IsBusRow image at result) }
 {
-    let mut row = [0; 7];
+    let mut row = [0; BUS_WORDS];
     read_words(words, at, &mut row);
     BusRow {
         kind: row[0],
@@ -96,7 +97,7 @@ pub(crate) fn message_row<W: Words>(words: &mut W, at: usize) -> MessageRow
     ensures learned { Learned W.knows W.reads words.old words.new }
     ensures row { Holds (W.knows words.new) (λ image bench. IsMessageRow image at result) }
 {
-    let mut row = [0; 5];
+    let mut row = [0; MESSAGE_WORDS];
     read_words(words, at, &mut row);
     MessageRow {
         name: row[1],
@@ -142,7 +143,7 @@ pub(crate) fn signal_row<W: Words>(words: &mut W, at: usize) -> SignalRow
     ensures row { Holds (W.knows words.new) (λ image bench. IsSignalRow image at result) }
     ensures shape { IsDecodableShape result.level.shape }
 {
-    let mut row = [0; 12];
+    let mut row = [0; SIGNAL_WORDS];
     read_words(words, at, &mut row);
     SignalRow {
         name: row[0],

@@ -11,6 +11,7 @@ ghost use Rattle.image_words.specs.Image.{sign_weight};
 ghost use Rattle.image_words.specs.Reading.{shape_of, IsDecodableShape, HasShape};
 
 use crate::joining::{big_endian, little_endian};
+use crate::layout::{ORDER_WEIGHT, SIGN_WEIGHT, SIZE_SPAN, SIZE_WEIGHT};
 use bench_model::{Order, raw_by_shift};
 
 /// Where a signal's bits stand in a frame, and whether they are a signed number.
@@ -28,16 +29,16 @@ impl Shape {
         requires { word < 2 * sign_weight }
         ensures { result ≡ shape_of word }
     {
-        let order = if word / 16_777_216 % 2 == 1 {
+        let order = if word / ORDER_WEIGHT % 2 == 1 {
             Order::Motorola
         } else {
             Order::Intel
         };
         Shape {
-            start: (word % 65_536) as u32,
-            size: (word / 65_536 % 256) as u32,
+            start: (word % SIZE_WEIGHT) as u32,
+            size: (word / SIZE_WEIGHT % SIZE_SPAN) as u32,
             order,
-            signed: word / 33_554_432 == 1,
+            signed: word / SIGN_WEIGHT == 1,
         }
     }
 

@@ -5,6 +5,7 @@ ghost use Rattle.image_words.specs.Knowledge.{SomeFits};
 ghost use Rattle.image_words.specs.Reading.{Learned, EachHas, EachIs, TextAt};
 
 use crate::Words;
+use crate::layout::{LENGTH_SPAN, WORD_BYTES};
 use std::alloc::AllocError;
 
 /// Appends the text of a reference.
@@ -20,10 +21,10 @@ pub(crate) fn append_text<W: Words>(
         (λ image text. buffer.new.items ≡ buffer.old.items ++ text)) }
 {
     let _size = words.len();
-    let place = (reference / 65_536) as usize;
-    let length = (reference % 65_536) as usize;
+    let place = (reference / LENGTH_SPAN) as usize;
+    let length = (reference % LENGTH_SPAN) as usize;
     let before = buffer.len();
-    for i in 0..length.div_ceil(8) {
+    for i in 0..length.div_ceil(WORD_BYTES) {
         let word = words.word(place + i);
         buffer.extend_from_slice(&word.to_le_bytes())?;
     }

@@ -13,10 +13,11 @@ use crate::texts::append_text;
 use bench_model::{SignalValue, Text};
 use std::alloc::{AllocError, Global};
 
-/// The text of a reference.
+/// The text of a reference, read through a buffer that is used again for each text.
 pub(crate) fn text_of<W: Words>(
     alloc: Global,
     words: &mut W,
+    buffer: &mut Vec<u8>,
     reference: u64,
 ) -> Result<Text, AllocError>
     requires some { SomeFits (W.knows words.old) }
@@ -25,15 +26,17 @@ pub(crate) fn text_of<W: Words>(
     ensures text { IfOk result (λ text. EachIs (W.knows words.new) (TextAt reference)
         (λ image own. text ≡ own)) }
 {
-    let mut buffer = Vec::new(alloc);
-    append_text(words, reference, &mut buffer)?;
-    Ok(Text::from_vec(buffer))
+    buffer.clear();
+    append_text(words, reference, buffer)?;
+    let text = Text::of(alloc, buffer.as_slice())?;
+    Ok(text)
 }
 
 /// The text of a reference; none where the reference is 0.
 fn optional_text<W: Words>(
     alloc: Global,
     words: &mut W,
+    buffer: &mut Vec<u8>,
     reference: u64,
 ) -> Result<Option<Text>, AllocError>
     requires some { SomeFits (W.knows words.old) }
@@ -45,12 +48,17 @@ fn optional_text<W: Words>(
     if reference == 0 {
         return Ok(None);
     }
-    let text = text_of(alloc, words, reference)?;
+    let text = text_of(alloc, words, buffer, reference)?;
     Ok(Some(text))
 }
 
 /// The unit of a reference; an empty one where the reference is 0.
-fn unit_of<W: Words>(alloc: Global, words: &mut W, reference: u64) -> Result<Text, AllocError>
+fn unit_of<W: Words>(
+    alloc: Global,
+    words: &mut W,
+    buffer: &mut Vec<u8>,
+    reference: u64,
+) -> Result<Text, AllocError>
     requires some { SomeFits (W.knows words.old) }
     requires text { EachHas (W.knows words.old) (UnitAt reference) }
     ensures learned { Learned W.knows W.reads words.old words.new }
@@ -61,7 +69,7 @@ fn unit_of<W: Words>(alloc: Global, words: &mut W, reference: u64) -> Result<Tex
         let empty = Text::of(alloc, b"")?;
         return Ok(empty);
     }
-    let text = text_of(alloc, words, reference)?;
+    let text = text_of(alloc, words, buffer, reference)?;
     Ok(text)
 }
 
@@ -69,6 +77,7 @@ fn unit_of<W: Words>(alloc: Global, words: &mut W, reference: u64) -> Result<Tex
 pub(crate) fn value_of<W: Words>(
     alloc: Global,
     words: &mut W,
+    buffer: &mut Vec<u8>,
     row: SignalRow,
     raw: i128,
 ) -> Result<SignalValue, AllocError>
@@ -80,9 +89,9 @@ pub(crate) fn value_of<W: Words>(
         (λ image s. value ≡ physical s raw)) }
 {
     let coded = coded_value(words, row.coding, raw);
-    let name = text_of(alloc, words, row.name)?;
-    let unit = unit_of(alloc, words, coded.unit)?;
-    let label = optional_text(alloc, words, coded.label)?;
+    let name = text_of(alloc, words, buffer, row.name)?;
+    let unit = unit_of(alloc, words, buffer, coded.unit)?;
+    let label = optional_text(alloc, words, buffer, coded.label)?;
     Ok(SignalValue {
         name,
         raw,

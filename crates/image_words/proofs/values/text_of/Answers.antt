@@ -3,4 +3,5 @@ use Rattle.image_words.proofs.values.text_of.Goals as goal
 
 pub returns-clause-text : goal.returns-clause-text
 returns-clause-text g c image bench f own has =
-    c.from_vec.ensures ∙ c.in_ok-append_text.ensures.text image bench f own has ∙ ap (λ (before : List ℕ). before ++ own) c.new-buffer.ensures.items
+    c.in_ok-text.ensures.ok ∙ c.as_slice.ensures.value ∙ c.in_ok-append_text.ensures.text image bench f own has
+    ∙ ap (λ (before : List ℕ). before ++ own) c.clear.ensures.items
