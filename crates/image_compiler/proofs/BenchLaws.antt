@@ -1,5 +1,5 @@
 -- The layout of a bench has its size and encodes it.
-use Rattle.std.proofs.Common.{◌≡◌, ◌∙◌, ℕ, zero, suc, ◌+◌, ◌-◌, ◌*◌, ◌/◌, ◌%◌, ◌<◌, ◌≤◌, ◌==◌, Bool, true, false, List, [], ◌∷◌, ◌++◌, length, get_or, Option, Some, None, refl, ap, sym, subst, arith, length-append}
+use Rattle.std.proofs.Common.{◌≡◌, ◌∙◌, ℕ, suc, ◌+◌, ◌*◌, ◌/◌, ◌%◌, ◌<◌, ◌≤◌, ◌==◌, Bool, true, false, List, [], ◌∷◌, ◌++◌, length, get_or, Option, refl, ap, sym, subst, arith, length-append}
 use Rattle.std.specs.Prelude.{All, if◌then◌else◌}
 use Rattle.multiplex_tree.specs.declared.mark.Parent.{Parent}
 use Rattle.bench_model.specs.declared.database.Kind.{Kind}
@@ -18,7 +18,7 @@ use Rattle.image_words.specs.Layout.{word, header_words, bus_words, message_word
 use Rattle.image_words.specs.Index.{extended_from, key_entries, groups_on, HasIndex}
 use Rattle.image_words.specs.Image.{HasSignal, HasParent, HasMessage, HasBus, Encodes, kind_of}
 use Rattle.image_compiler.specs.Size.{total, table_size, text_size, signal_behind, parent_behind, message_behind, bus_behind, image_size}
-use Rattle.image_compiler.specs.Layout.{text_words, table_words, parts_from, signal_parts, parent_parts, signal_rows, signals_words, message_row, message_parts, ascending, bus_row, bus_parts, kind_number, layout, reference}
+use Rattle.image_compiler.specs.Layout.{text_words, table_words, parts_from, signal_parts, parent_parts, signal_rows, signals_words, message_row, message_parts, ascending, bus_row, bus_parts, kind_number, layout}
 use Rattle.image_compiler.specs.Typed.{IsTypedSignal, IsTypedMessage, IsTypedBus}
 use Rattle.image_compiler.proofs.ListLaws.{Stands, stands_first, stands_word, stands_left, stands_right, stands_at, all_both, table_total, table_long, table_stands, all_parts_long}
 use Rattle.image_compiler.proofs.TextLaws.{text_long, text_stands}

@@ -1,6 +1,6 @@
 -- The rows that are written for scalings, labels, entries, codings and ranges have these parts.
-use Rattle.std.proofs.Common.{◌≡◌, ◌∙◌, ℕ, zero, suc, ◌+◌, ◌-◌, ◌*◌, ◌^◌, ◌<◌, ◌≤◌, ◌==◌, ℤ, pos, negsuc, ◌-ℤ◌, List, [], ◌∷◌, ◌++◌, length, get_or, Option, Some, None, refl, ap, sym, subst, arith, length-append}
-use Rattle.std.specs.Prelude.{replicate, unsigned_abs, slice_index, slice_index_or, All}
+use Rattle.std.proofs.Common.{◌≡◌, ◌∙◌, ℕ, zero, suc, ◌+◌, ◌*◌, ◌^◌, ◌<◌, ◌≤◌, ◌==◌, ℤ, pos, negsuc, ◌-ℤ◌, List, [], ◌∷◌, ◌++◌, length, refl, ap, sym, subst, arith, length-append}
+use Rattle.std.specs.Prelude.{replicate, unsigned_abs, slice_index}
 use Rattle.std.specs.Int.{w64, cast_signed, cast_unsigned}
 use Rattle.std.proofs.lemmas.Int.{ints, to_z-of_z, fits_signed_from_abs}
 use Rattle.exact_scale.specs.declared.scaling.Scale.{Scale}
@@ -16,7 +16,7 @@ use Rattle.bench_model.specs.Rules.{IsShortText, HasShortText, IsSmall}
 use Rattle.image_words.specs.Layout.{word, label_words, entry_words, range_words, EachRow, HasRows, AreZeros}
 use Rattle.image_words.specs.Image.{HasScale, HasRange, HasLabel, HasEntry, HasCoding, raw_of_bits}
 use Rattle.image_compiler.specs.Size.{text_size, table_size, label_behind, entry_behind, coding_behind}
-use Rattle.image_compiler.specs.Layout.{text_words, table_words, label_row, label_parts, entry_row, entry_parts, coding_row, coding_parts, ranges_words, sign_flag, reference}
+use Rattle.image_compiler.specs.Layout.{text_words, table_words, label_row, label_parts, entry_row, entry_parts, coding_row, coding_parts, ranges_words, sign_flag}
 use Rattle.image_compiler.specs.Typed.{IsTypedLabel, IsTypedEntry, IsTypedCoding}
 use Rattle.image_compiler.proofs.ListLaws.{Stands, stands_first, stands_word, stands_left, stands_right, all_both, table_long, table_stands}
 use Rattle.image_compiler.proofs.TextLaws.{text_long, optional_text_long, text_stands, optional_text_stands}

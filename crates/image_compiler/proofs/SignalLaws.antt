@@ -1,5 +1,5 @@
 -- The rows that are written for the signals of a message have the signals and their parents.
-use Rattle.std.proofs.Common.{◌≡◌, ◌∙◌, ℕ, zero, suc, ◌+◌, ◌-◌, ◌*◌, ◌/◌, ◌%◌, ◌<◌, ◌≤◌, ◌==◌, Bool, true, false, List, [], ◌∷◌, ◌++◌, length, get_or, Option, Some, None, refl, ap, sym, subst, arith, length-append}
+use Rattle.std.proofs.Common.{◌≡◌, ℕ, ◌+◌, ◌*◌, ◌/◌, ◌%◌, ◌<◌, ◌≤◌, ◌==◌, Bool, true, false, List, [], ◌∷◌, length, Option, Some, None, refl, ap, arith, length-append}
 use Rattle.std.specs.Prelude.{All}
 use Rattle.multiplex_tree.specs.declared.mark.Parent.{Parent}
 use Rattle.bench_model.specs.declared.database.Order.{Order}
@@ -9,8 +9,8 @@ use Rattle.bench_model.specs.Limits.{IsCoding}
 use Rattle.bench_model.specs.Rules.{KeepsSignalRules}
 use Rattle.image_words.specs.Layout.{word, signal_words, range_words, EachRow}
 use Rattle.image_words.specs.Image.{HasSignal, HasParent, HasRange, size_weight, size_span, order_weight, sign_weight, order_of}
-use Rattle.image_compiler.specs.Size.{total, text_size, signal_behind, parent_behind, coding_behind}
-use Rattle.image_compiler.specs.Layout.{text_words, coding_row, coding_parts, parent_row, parent_parts, signal_row, signal_parts, signal_rows, parts_from, ranges_words, shape_word, order_flag, flag, reference}
+use Rattle.image_compiler.specs.Size.{total, text_size, signal_behind, parent_behind}
+use Rattle.image_compiler.specs.Layout.{text_words, coding_row, coding_parts, parent_row, parent_parts, signal_row, signal_parts, signal_rows, parts_from, shape_word, order_flag, flag, reference}
 use Rattle.image_compiler.specs.Typed.{IsTypedSignal}
 use Rattle.image_compiler.proofs.ListLaws.{Stands, stands_first, stands_word, stands_left, stands_right, all_first, all_rest}
 use Rattle.image_compiler.proofs.TextLaws.{text_long, text_stands}

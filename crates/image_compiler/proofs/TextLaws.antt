@@ -1,14 +1,12 @@
 -- The words that are written for a text are that text.
-use Rattle.std.proofs.Common.{◌≡◌, ◌∙◌, ℕ, zero, suc, ◌+◌, ◌-◌, ◌*◌, ◌/◌, ◌%◌, ◌<◌, ◌≤◌, List, [], ◌∷◌, ◌++◌, length, take, drop, get_or, Option, Some, None, refl, ap, sym, subst, arith, append_assoc, length-append, add-zero}
-use Rattle.std.specs.Prelude.{replicate, slice_index}
+use Rattle.std.proofs.Common.{◌≡◌, ◌∙◌, ℕ, zero, suc, ◌+◌, ◌-◌, ◌*◌, ◌/◌, ◌%◌, ◌<◌, ◌≤◌, List, [], ◌∷◌, ◌++◌, length, take, drop, Option, Some, None, refl, ap, sym, arith, append_assoc, length-append, add-zero}
+use Rattle.std.specs.Prelude.{replicate}
 use Rattle.std.specs.Int.{w64, to_le_bytes}
-use Rattle.std.proofs.lemmas.List.{length-take-le, length-drop, take-append-drop, length-replicate, append-nil, get_or-take, get_or-drop, get_or_past}
+use Rattle.std.proofs.lemmas.List.{length-take-le, length-drop, take-append-drop, length-replicate, append-nil}
 use Rattle.std.proofs.lemmas.Nat.{le_bytes_8}
-use Rattle.std.proofs.lemmas.Bool.{cases_lt}
-use Rattle.std.proofs.Math.ListN.{get_or-append}
 use Rattle.bench_model.specs.Shifts.{AreBytes}
 use Rattle.bench_model.specs.Rules.{IsShortIfThere}
-use Rattle.image_words.specs.Layout.{word, bytes_from, word_bytes, words_for, padded, length_span, header_words, HasText, HasOptionalText}
+use Rattle.image_words.specs.Layout.{word, bytes_from, words_for, padded, length_span, header_words, HasText, HasOptionalText}
 use Rattle.image_compiler.specs.Size.{text_size, optional_text_size}
 use Rattle.image_compiler.specs.Layout.{blocks, text_words, optional_text_words, reference, optional_reference}
 use Rattle.image_compiler.specs.Typed.{AreBytesIfThere}

@@ -1,6 +1,6 @@
 -- What is written so far and what is left are all.
-use Rattle.std.proofs.Common.{◌≡◌, ◌∙◌, ℕ, zero, suc, ◌+◌, ◌-◌, ◌*◌, ◌/◌, ◌<◌, ◌≤◌, inl, inr, Bool, true, false, Option, min, List, [], ◌∷◌, ◌++◌, length, take, drop, get_or, refl, ap, sym, subst, arith, append_assoc, length-append}
-use Rattle.std.specs.Prelude.{All, slice_index, slice_index_or, replicate, if◌then◌else◌}
+use Rattle.std.proofs.Common.{◌≡◌, ◌∙◌, ℕ, zero, suc, ◌+◌, ◌-◌, ◌*◌, ◌<◌, ◌≤◌, inl, inr, Bool, true, false, Option, min, List, [], ◌∷◌, ◌++◌, length, take, drop, get_or, refl, ap, sym, subst, arith, append_assoc}
+use Rattle.std.specs.Prelude.{All, slice_index, replicate, if◌then◌else◌}
 use Rattle.std.specs.Int.{w64, from_le_bytes}
 use Rattle.std.proofs.Math.ListN.{get_or-append, drop_of_length-le}
 use Rattle.std.proofs.lemmas.Bool.{cases_lt}
@@ -14,7 +14,7 @@ use Rattle.bench_model.specs.Meaning.{group_of}
 use Rattle.image_words.specs.Layout.{words_for, padded}
 use Rattle.image_words.specs.Index.{key_number, key_entries, group_entries}
 use Rattle.image_compiler.specs.Size.{total, signal_behind, parent_behind}
-use Rattle.image_compiler.specs.Layout.{blocks, text_words, rows_from, parts_from, ranges_words, signal_row, signal_rows}
+use Rattle.image_compiler.specs.Layout.{blocks, rows_from, parts_from, ranges_words, signal_row, signal_rows}
 
 pub next_of : {X : Type 0} (xs : List X) (i : ℕ) (x : X) → i < length xs → x ≡ get_or xs i x → drop i xs ≡ x ∷ drop (i + 1) xs
 next_of {X} xs i x h e = drop_more xs i x h ∙ ap (λ (y : X). y ∷ drop (i + 1) xs) (sym e)

@@ -1,6 +1,6 @@
 -- The words that are written for a bench. The rows of a list stand one after another; behind them stands, in the same
 -- order, what each of them refers to.
-use Rattle.std.specs.Prelude.{ℕ, zero, suc, ◌+◌, ◌*◌, ◌≤◌, Bool, true, false, ℤ, pos, negsuc, if◌then◌else◌, List, [], ◌∷◌, ◌++◌, length, take, drop, Option, Some, None, nat_le}
+use Rattle.std.specs.Prelude.{ℕ, zero, suc, ◌+◌, ◌*◌, Bool, ℤ, pos, negsuc, if◌then◌else◌, List, [], ◌∷◌, ◌++◌, length, take, drop, Option, Some, None, nat_le}
 use Rattle.std.specs.Int.{w64, from_le_bytes, cast_unsigned}
 use Rattle.multiplex_tree.specs.declared.mark.Range.{Range}
 use Rattle.multiplex_tree.specs.declared.mark.Parent.{Parent}
@@ -17,10 +17,10 @@ use Rattle.bench_model.specs.declared.database.Signal.{Signal}
 use Rattle.bench_model.specs.declared.database.Message.{Message}
 use Rattle.bench_model.specs.declared.database.Bus.{Bus}
 use Rattle.bench_model.specs.declared.database.Bench.{Bench}
-use Rattle.image_words.specs.Layout.{word_bytes, header_words, bus_words, message_words, signal_words, range_words, label_words, entry_words, padded, length_span}
+use Rattle.image_words.specs.Layout.{word_bytes, header_words, bus_words, message_words, signal_words, label_words, entry_words, padded, length_span}
 use Rattle.image_words.specs.Image.{size_weight, order_weight, sign_weight}
 use Rattle.image_words.specs.Index.{key_number, key_entries, groups_on}
-use Rattle.image_compiler.specs.Size.{total, table_size, text_size, label_behind, entry_behind, coding_behind, signal_behind, parent_behind, message_behind, bus_behind, image_size}
+use Rattle.image_compiler.specs.Size.{total, table_size, text_size, label_behind, entry_behind, signal_behind, parent_behind, message_behind, bus_behind, image_size}
 
 -- n words of eight bytes each
 unfoldable pub blocks : ℕ → List ℕ → List ℕ

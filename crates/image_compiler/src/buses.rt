@@ -1,31 +1,17 @@
 //! Buses with their indexes.
 
 ghost use Rattle.std.specs.Prelude.{◌≡◌, ◌++◌, ◌*◌, ◌+◌, length, OnOk, IfOk};
-ghost use Rattle.bench_model.specs.Meaning.{group_of as group};
 ghost use Rattle.image_words.specs.Index.{key_entries as entries_by_key, group_entries as entries_by_group, groups_on};
 ghost use Rattle.image_compiler.specs.Size.{bus_behind};
 ghost use Rattle.image_compiler.specs.Layout.{bus_row, bus_parts, ascending, kind_number};
 ghost use Rattle.image_compiler.specs.Typed.{IsTypedBus};
 
 use crate::parts::{Parts, Row, table_size, write_table};
-use crate::signals::key_number_of;
 use crate::texts::{append, reference, sum, text_size, write_text};
 use bench_model::{Bus, Kind, Message};
+use image_words::layout::{CAN_BUS, J1939_BUS, LIN_BUS, MESSAGE_WORDS, POSITION_SPAN};
+use image_words::{group_of, key_number_of};
 use std::alloc::{AllocError, Global};
-
-/// Words of a message's row.
-const MESSAGE_WORDS: u64 = 5;
-
-/// The parameter group number of a 29-bit identifier (SAE J1939-21).
-fn group_of(id: u32) -> u32
-    ensures { result ≡ group id }
-{
-    if (id / 65_536) % 256 < 240 {
-        (id / 65_536) % 1_024 * 256
-    } else {
-        (id / 256) % 262_144
-    }
-}
 
 /// How many messages are extended.
 fn extended_messages(messages: &[Message]) -> u64
@@ -57,7 +43,7 @@ fn key_entries(alloc: Global, messages: &[Message]) -> Result<Vec<u64>, AllocErr
     let mut entries = Vec::new(alloc);
     let mut position = 0;
     for message in messages {
-        entries.push(key_number_of(message.key) * 131_072 + position)?;
+        entries.push(key_number_of(message.key) * POSITION_SPAN + position)?;
         position += 1;
     }
     Ok(entries)
@@ -71,7 +57,7 @@ fn group_entries(alloc: Global, messages: &[Message]) -> Result<Vec<u64>, AllocE
     let mut position = 0;
     for message in messages {
         if message.key.extended {
-            entries.push(u64::from(group_of(message.key.id)) * 131_072 + position)?;
+            entries.push(u64::from(group_of(message.key.id)) * POSITION_SPAN + position)?;
         }
         position += 1;
     }
@@ -129,9 +115,9 @@ impl Row for Bus {
 
     fn write_row(&self, out: &mut Vec<u64>, place: u64) -> Result<(), AllocError> {
         let kind = match self.kind {
-            Kind::Can => 0,
-            Kind::J1939 => 1,
-            Kind::Lin => 2,
+            Kind::Can => CAN_BUS,
+            Kind::J1939 => J1939_BUS,
+            Kind::Lin => LIN_BUS,
         };
         let list = self.database.messages.items();
         let name = reference(place, &self.name)?;

@@ -11,12 +11,8 @@ use crate::texts::{
     write_optional_text, write_text,
 };
 use bench_model::{Coding, Entry, Label};
+use image_words::layout::{ENTRY_WORDS, LABEL_WORDS, LISTED, LOGICAL, PHYSICAL, PLAIN, SCALED};
 use std::alloc::{AllocError, Global};
-
-/// Words of a label's row.
-const LABEL_WORDS: u64 = 3;
-/// Words of an entry's row.
-const ENTRY_WORDS: u64 = 7;
 
 impl Parts for Label {
     ghost behind = { label_behind };
@@ -85,7 +81,7 @@ impl Row for Entry {
         match self {
             Entry::Logical { raw, text } => {
                 let text = optional_reference(place, text)?;
-                append(out, &[0, *raw, *raw, 0, 0, 0, text])
+                append(out, &[LOGICAL, *raw, *raw, 0, 0, 0, text])
             }
             Entry::Physical {
                 low,
@@ -98,10 +94,18 @@ impl Row for Entry {
                 let unit = reference(place, unit)?;
                 append(
                     out,
-                    &[1, *low, *high, factor, offset, u64::from(scale.k), unit],
+                    &[
+                        PHYSICAL,
+                        *low,
+                        *high,
+                        factor,
+                        offset,
+                        u64::from(scale.k),
+                        unit,
+                    ],
                 )
             }
-            Entry::Plain => append(out, &[2, 0, 0, 0, 0, 0, 0]),
+            Entry::Plain => append(out, &[PLAIN, 0, 0, 0, 0, 0, 0]),
         }
     }
 }
@@ -141,12 +145,20 @@ pub(crate) fn write_coding(
             let count = labels.items().len() as u64;
             append(
                 out,
-                &[0, first, count, factor, offset, u64::from(scale.k), text],
+                &[
+                    SCALED,
+                    first,
+                    count,
+                    factor,
+                    offset,
+                    u64::from(scale.k),
+                    text,
+                ],
             )
         }
         Coding::Listed { entries } => append(
             out,
-            &[1, place, entries.items().len() as u64, 0, 0, 0, 0],
+            &[LISTED, place, entries.items().len() as u64, 0, 0, 0, 0],
         ),
     }
 }

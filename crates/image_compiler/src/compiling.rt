@@ -12,12 +12,8 @@ use crate::CompileRefused;
 use crate::parts::{table_size, write_table};
 use crate::texts::sum;
 use bench_model::{Bench, valid_keeps_rules};
+use image_words::layout::{BUS_WORDS, HEADER_WORDS};
 use std::alloc::{AllocError, Global};
-
-/// Words of an image's header, and of a bus's row.
-const HEADER_WORDS: u64 = 2;
-
-const BUS_WORDS: u64 = 7;
 
 /// How many words the image takes.
 pub(crate) fn image_size(bench: &Bench) -> Result<u64, AllocError>
@@ -25,7 +21,7 @@ pub(crate) fn image_size(bench: &Bench) -> Result<u64, AllocError>
     ensures typed { OnOk result (All IsTypedBus bench.now.buses) }
 {
     let table = table_size(BUS_WORDS, bench.buses.items())?;
-    sum(HEADER_WORDS, table)
+    sum(HEADER_WORDS as u64, table)
 }
 
 /// The image, which takes so many words.
@@ -37,7 +33,7 @@ pub(crate) fn write_image(alloc: Global, bench: &Bench, size: u64) -> Result<Vec
     let mut image = Vec::with_capacity(alloc, size as usize)?;
     image.push(size)?;
     image.push(buses.len() as u64)?;
-    write_table(alloc, &mut image, HEADER_WORDS, BUS_WORDS, buses)?;
+    write_table(alloc, &mut image, HEADER_WORDS as u64, BUS_WORDS, buses)?;
     Ok(image)
 }
 

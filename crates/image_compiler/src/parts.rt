@@ -52,7 +52,7 @@ pub(crate) fn total<T: Parts>(rows: &[T]) -> Result<u64, AllocError>
 }
 
 /// How many words the rows and what they refer to take.
-pub(crate) fn table_size<T: Parts>(width: u64, rows: &[T]) -> Result<u64, AllocError>
+pub(crate) fn table_size<T: Parts>(width: usize, rows: &[T]) -> Result<u64, AllocError>
     ensures size { IfOk result (λ n. n ≡ size_of_table width T.behind rows.now) }
     ensures typed { OnOk result (All T.is_typed rows.now) }
 {
@@ -96,7 +96,7 @@ pub(crate) fn write_table<T: Row>(
     alloc: Global,
     out: &mut Vec<u64>,
     place: u64,
-    width: u64,
+    width: usize,
     rows: &[T],
 ) -> Result<(), AllocError>
     ensures { OnOk result (out.new.items ≡ out.old.items ++ table_words width T.row_words T.parts T.behind place rows.now) }

@@ -1,22 +1,19 @@
 //! Signals with their parents, and messages.
 
-ghost use Rattle.std.specs.Prelude.{◌≡◌, ◌++◌, ◌*◌, ◌<◌, [], ◌∷◌, OnOk, IfOk};
+ghost use Rattle.std.specs.Prelude.{◌≡◌, ◌++◌, ◌<◌, [], ◌∷◌, OnOk, IfOk};
 ghost use Rattle.image_compiler.specs.Size.{signal_behind, parent_behind, message_behind};
 ghost use Rattle.image_compiler.specs.Layout.{signal_row, signal_rows, signal_parts, parent_row, parent_parts, ranges_words, message_row, message_parts, signals_words, shape_word};
 ghost use Rattle.image_compiler.specs.Typed.{IsTypedSignal, IsTypedMessage};
-ghost use Rattle.image_words.specs.Index.{key_number, extended_from};
+ghost use Rattle.image_words.specs.Index.{extended_from};
 
 use crate::choices::{coding_size, write_coding, write_coding_parts};
 use crate::parts::{Parts, Row, table_size, total, write_all_parts};
 use crate::texts::{append, place_behind, reference, sum, text_size, write_text};
-use bench_model::{Key, Message, Order, Signal};
+use bench_model::{Message, Order, Signal};
+use image_words::key_number_of;
+use image_words::layout::{ORDER_WEIGHT, RANGE_WORDS, SIGN_WEIGHT, SIGNAL_WORDS, SIZE_WEIGHT};
 use multiplex_tree::{Parent, Range};
 use std::alloc::{AllocError, Global};
-
-/// Words of a signal's row.
-const SIGNAL_WORDS: u64 = 12;
-/// Words of a range.
-const RANGE_WORDS: u64 = 2;
 
 impl Parts for Signal {
     ghost behind = { signal_behind };
@@ -87,10 +84,10 @@ fn shape_of(signal: &Signal) -> u64
 {
     let order = match signal.order {
         Order::Intel => 0,
-        Order::Motorola => 16_777_216,
+        Order::Motorola => ORDER_WEIGHT,
     };
-    let sign = if signal.signed { 33_554_432 } else { 0 };
-    u64::from(signal.start) + u64::from(signal.size) * 65_536 + order + sign
+    let sign = if signal.signed { SIGN_WEIGHT } else { 0 };
+    u64::from(signal.start) + u64::from(signal.size) * SIZE_WEIGHT + order + sign
 }
 
 /// The three words of a signal's row on its parent, whose ranges stand at a place.
@@ -170,19 +167,6 @@ fn write_signal_lists(
 fn identifier_bits(id: u32)
     ensures { id < extended_from }
 {}
-
-/// The number of a key: its identifier, and 2^32 more where it is extended.
-pub(crate) fn key_number_of(key: Key) -> u64
-    ensures value { result ≡ key_number key }
-    ensures below { result < 2 * extended_from }
-{
-    identifier_bits(key.id);
-    if key.extended {
-        u64::from(key.id) + 4_294_967_296
-    } else {
-        u64::from(key.id)
-    }
-}
 
 impl Parts for Message {
     ghost behind = { message_behind };

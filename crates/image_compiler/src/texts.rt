@@ -10,10 +10,8 @@ ghost use Rattle.image_compiler.specs.Layout.{text_words, optional_text_words, r
 ghost use Rattle.image_compiler.specs.Typed.{AreBytesIfThere};
 
 use bench_model::Text;
+use image_words::layout::{LENGTH_SPAN, WORD_BYTES};
 use std::alloc::AllocError;
-
-/// The place of a text in a reference, whose low 16 bits are its length.
-const LENGTH_SPAN: u64 = 65_536;
 
 /// The sum, where it has a word.
 pub(crate) fn sum(a: u64, b: u64) -> Result<u64, AllocError>
@@ -26,10 +24,10 @@ pub(crate) fn sum(a: u64, b: u64) -> Result<u64, AllocError>
 }
 
 /// The place behind so many rows.
-pub(crate) fn place_behind(place: u64, width: u64, rows: usize) -> Result<u64, AllocError>
+pub(crate) fn place_behind(place: u64, width: usize, rows: usize) -> Result<u64, AllocError>
     ensures { IfOk result (λ n. n ≡ place + width * rows) }
 {
-    match width.checked_mul(rows as u64) {
+    match (width as u64).checked_mul(rows as u64) {
         Some(n) => sum(place, n),
         None => Err(AllocError),
     }
@@ -64,7 +62,7 @@ fn bytes_size(bytes: &[u8]) -> u64
     ensures size { result ≡ size_of bytes.now }
     ensures typed { AreBytes bytes.now }
 {
-    (bytes.len() as u64 + 7) / 8
+    bytes.len().div_ceil(WORD_BYTES) as u64
 }
 
 /// How many words a text takes.
@@ -134,8 +132,8 @@ fn word_at(bytes: &[u8], at: usize) -> u64
 fn write_bytes(out: &mut Vec<u64>, bytes: &[u8]) -> Result<(), AllocError>
     ensures { OnOk result (out.new.items ≡ out.old.items ++ text_words bytes.now) }
 {
-    for i in 0..(bytes.len() + 7) / 8 {
-        out.push(word_at(bytes, 8 * i))?;
+    for i in 0..bytes.len().div_ceil(WORD_BYTES) {
+        out.push(word_at(bytes, WORD_BYTES * i))?;
     }
     Ok(())
 }

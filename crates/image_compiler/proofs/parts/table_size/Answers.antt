@@ -1,6 +1,5 @@
-use Rattle.std.proofs.Common.{◌≡◌, ◌+◌, ◌*◌, ℕ, arith, subst, length, sym}
+use Rattle.std.proofs.Common.{◌≡◌, ℕ, arith, subst}
 use Rattle.std.specs.Prelude.{IfOk}
-use Rattle.image_compiler.specs.Size.{total}
 use Rattle.image_compiler.proofs.ListLaws.{table_total}
 use Rattle.image_compiler.proofs.parts.table_size.Goals as goal
 

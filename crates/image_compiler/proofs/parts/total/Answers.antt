@@ -1,4 +1,4 @@
-use Rattle.std.proofs.Common.{arith, ◌∙◌, sym}
+use Rattle.std.proofs.Common.{arith}
 use Rattle.image_compiler.proofs.WritingLaws.{total_more, total_none, all_more, all_none}
 use Rattle.image_compiler.proofs.parts.total.Goals as goal
 
