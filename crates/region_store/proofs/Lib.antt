@@ -10,3 +10,5 @@ pub mod ReadLaws
 pub mod LookLaws
 pub mod FirstLaws
 pub mod WriteLaws
+pub mod PublishLaws
+pub mod TestLaws

@@ -5,7 +5,7 @@ use Rattle.std.proofs.lemmas.Bool.{cases_eq, cond-true, cond-false}
 use Rattle.std.proofs.lemmas.List.{get_or_append_left, get_or_push, length-map}
 use Rattle.std.proofs.lemmas.Option.{slice_get-get_or}
 use Rattle.std.proofs.lemmas.List.Elements.{All-push, All-weaker, All-cons, All-head, All-tail}
-use Rattle.image_words.specs.Knowledge.{SomeFits}
+use Rattle.image_words.specs.Knowledge.{Fits, SomeFits}
 use Rattle.region_store.specs.declared.view.Read.{Read}
 use Rattle.region_store.specs.declared.view.Use.{Use}
 use Rattle.region_store.specs.Images.{IsLike, name_of, names_of}
@@ -72,21 +72,21 @@ buses_of first image like =
     let its : length (names_of like.before) ≡ length like.before.buses = length-map like.before.buses name_of in
     sym mine ∙ (alike ∙ (its ∙ like.first_encodes.buses.size))
 
--- some list fits what is known under a pin: the image itself
+-- the image of a use's version fits what is known under that pin
+pub image_fits : (first : List ℕ) (images : List (List ℕ)) (u : Use) (buses : ℕ) (like : IsLike first (image_at images u.version)) → buses ≡ get_or first 1 0 → UseFits images u
+    → Fits (knowledge_of buses u) (image_at images u.version) like.bench
+image_fits first images u buses like are fit = record {
+  size = sym fit.size;
+  buses = buses_of first (image_at images u.version) like ∙ sym are;
+  known = λ i w e. known_is_of (image_at images u.version) u.words fit.words i w e;
+  encodes = like.encodes;
+  valid = like.valid;
+}
+
+-- so some list does
 pub some_fits : (first : List ℕ) (images : List (List ℕ)) (u : Use) (buses : ℕ) → buses ≡ get_or first 1 0 → IsLike first (image_at images u.version) → UseFits images u → SomeFits (knowledge_of buses u)
 some_fits first images u buses are like fit =
-    let image : List ℕ = image_at images u.version in
-    record {
-      image = image;
-      bench = like.bench;
-      fits = record {
-        size = sym fit.size;
-        buses = buses_of first image like ∙ sym are;
-        known = λ i w e. known_is_of image u.words fit.words i w e;
-        encodes = like.encodes;
-        valid = like.valid;
-      };
-    }
+    record { image = image_at images u.version; bench = like.bench; fits = image_fits first images u buses like are fit }
 
 -- without the last use, and with the last one changed
 pub uses_fit_init : (images : List (List ℕ)) (us : List Use) (u : Use) → UsesFit images (us ++ u ∷ [])

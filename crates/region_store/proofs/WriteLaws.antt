@@ -10,7 +10,8 @@ use Rattle.region_store.specs.declared.view.View.{View}
 use Rattle.region_store.specs.Layout.{place_of}
 use Rattle.region_store.specs.Steps.{loader_did, with_written}
 use Rattle.region_store.specs.May.{MayWrite}
-use Rattle.region_store.specs.Publishing.{IsFound, stores_of, written}
+use Rattle.region_store.specs.Publishing.{stores_of}
+use Rattle.region_store.specs.Finding.{IsFound, written}
 use Rattle.region_store.proofs.PlaceLaws.{place_more}
 
 stores_suc : (start : ℕ) (image : List ℕ) (n : ℕ) → stores_of start image (n + 1) ≡ stores_of start image n ++ did.Stored (start + n) (get_or image n 0) ∷ []

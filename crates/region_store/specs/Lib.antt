@@ -10,5 +10,8 @@ pub mod Store
 -- What callers see of a store, of its seats and of a pin.
 pub mod Ends
 pub mod Reading
-pub mod Publishing
 pub mod LoaderEnd
+-- Which lanes hold a region, what a publication does, and what is found on the way.
+pub mod Holders
+pub mod Publishing
+pub mod Finding

@@ -1,84 +1,76 @@
--- What the loader finds of the regions before it publishes, and what it has stored into one.
-use Rattle.std.specs.Prelude.{◌≡◌, ◌≢◌, ℕ, zero, suc, ◌+◌, ◌-◌, ◌*◌, ◌<◌, ◌≤◌, ◌==◌, cond, List, [], ◌∷◌, ◌++◌, length, map, take, slice_index, All}
-use Rattle.std.specs.Prelude.{Contains, Option, Some, None, Result, Ok, Err}
+-- What a publication does, and when it is refused.
+use Rattle.std.specs.Prelude.{◌≡◌, ◌≢◌, ℕ, zero, suc, ◌+◌, ◌-◌, ◌*◌, ◌<◌, ◌≤◌, List, [], ◌∷◌, ◌++◌, length, slice_index, slice_set}
+use Rattle.std.specs.Prelude.{Some, None, Result, Ok, Err}
 use Rattle.region_store.specs.declared.loader.Holder.{Holder}
-use Rattle.region_store.specs.declared.loader.Holders.{Holders}
+use Rattle.region_store.specs.declared.loader.PublishRefused.{PublishRefused}
+use Rattle.region_store.specs.declared.loader.PublishRefused.TheVariants.{VersionsSpent, Busy}
+use Rattle.region_store.specs.declared.loader.LoaderSeat.{LoaderSeat}
 use Rattle.region_store.specs.declared.view.Did.{Did}
 use Rattle.region_store.specs.declared.view.Did.TheVariants as did
-use Rattle.region_store.specs.declared.view.LoaderView.{LoaderView}
 use Rattle.region_store.specs.declared.view.View.{View}
-use Rattle.region_store.specs.Layout.{pin_place, place_of}
-use Rattle.region_store.specs.Steps.{retirement_of}
-use Rattle.region_store.specs.May.{IsFree}
+use Rattle.region_store.specs.Layout.{place_of, published_word, epoch_word, packed}
+use Rattle.region_store.specs.Holders.{loads_of, loads_for, holders_in, Held, AreHeld, IsFreeBy}
+use Rattle.region_store.specs.LoaderEnd.{view_of_loader}
 
--- a load of the pin of one of so many lanes
-abbrev pub IsPinLoad : ℕ → Did → Type 0
-IsPinLoad lanes d = (lane : ℕ) × ((pin : ℕ) × ((lane < lanes) × (d ≡ did.Loaded (pin_place lane) pin)))
-
--- these steps were made, each of them a load of a pin, and else only which lanes are cleared changed
+-- these loads were made, and else only which lanes are cleared changed
 pub record Looked (more : List Did) (v w : View) : Type 0 where
-  pub pins : All (IsPinLoad v.shape.lanes) more
   pub same : w ≡ record v { loader = record v.loader { cleared = w.loader.cleared; steps = v.loader.steps ++ more } }
 
--- a lane that may hold a region that was retired: its pin was loaded among these steps, and is 1 or more and at most
--- one above the epoch of the retirement
-pub record IsHolder (more : List Did) (lanes : ℕ) (v : LoaderView) (h : Holder) : Type 0 where
-  pub lane_low : h.lane < lanes
-  pub epoch : ℕ
-  pub retired : retirement_of v h.region ≡ Some epoch
-  pub pin_low : 1 ≤ h.pin
-  pub pin_high : h.pin ≤ epoch + 1
-  pub loaded : Contains more (did.Loaded (pin_place h.lane) h.pin)
-
--- the regions below a number that are not the published one, in order
-unfoldable pub spare_below : ℕ → ℕ → List ℕ
-spare_below zero published = []
-spare_below (suc n) published = spare_below n published ++ cond (n == published) [] (n ∷ [])
-
--- one holder for each of these regions, in order
-pub record AreHolders (more : List Did) (v : View) (regions : ℕ) (hs : List Holder) : Type 0 where
-  pub regions_are : map (λ (h : Holder). h.region) hs ≡ spare_below regions v.loader.region
-  pub each : All (IsHolder more v.shape.lanes v.loader) hs
-
--- a region that no lane can hold
-pub record IsFound (v : View) (region : ℕ) : Type 0 where
-  pub there : region < v.shape.regions
-  pub spare : region ≢ v.loader.region
-  pub free : IsFree region v
+-- no more loads than the spare regions have lanes
+abbrev pub AreFew : List Did → View → Type 0
+AreFew more v = length more ≤ (v.shape.regions - 1) * v.shape.lanes
 
 -- the stores of the first words of an image, from a place on
 unfoldable pub stores_of : ℕ → List ℕ → ℕ → List Did
 stores_of start image zero = []
 stores_of start image (suc n) = stores_of start image n ++ did.Stored (start + n) (slice_index image n) ∷ []
 
--- what was found of one region: no lane can hold it, or this one may
-abbrev pub AnswerAt : ℕ → List Did → View → View → Option Holder → Type 0
-AnswerAt region more v w None = IsFree region w
-AnswerAt region more v w (Some h) = (h.region ≡ region) × IsHolder more v.shape.lanes v.loader h
+-- the stores of a publication: each word of the image in order, the published word, the epoch
+abbrev pub publishing : ℕ → List ℕ → View → List Did
+publishing region image v =
+    stores_of (place_of v.shape.room region 0) image (length image)
+    ++ (did.Stored published_word (packed (v.loader.version + 1) region (length image))
+    ∷ did.Stored epoch_word (v.loader.version + 1) ∷ [])
 
-pub record FoundAt (region : ℕ) (v w : View) (result : Option Holder) : Type 0 where
-  pub more : List Did
-  pub few : length more ≤ v.shape.lanes
-  pub looked : Looked more v w
-  pub answer : AnswerAt region more v w result
-
--- and of all but the published one: one that no lane can hold, or a lane for each
-abbrev pub AnswerOf : List Did → View → View → Result ℕ Holders → Type 0
-AnswerOf more v w (Ok region) = IsFound w region
-AnswerOf more v w (Err hs) = AreHolders more v v.shape.regions hs.each.items
-
-pub record FoundRegion (v w : View) (result : Result ℕ Holders) : Type 0 where
-  pub more : List Did
-  pub few : length more ≤ (v.shape.regions - 1) * v.shape.lanes
-  pub looked : Looked more v w
-  pub answer : AnswerOf more v w result
-
--- the loader has stored the first words of an image into a region
-abbrev pub written : ℕ → List ℕ → ℕ → View → View
-written region image n v = record v {
+-- what the loader knows then: one image more, in this region, the region before is retired, and these steps were made
+abbrev pub published : ℕ → List ℕ → List Did → View → View → View
+published region image more v w = record v {
   loader = record v.loader {
-    writing = cond (n == 0) None (Some region);
-    draft = take n image;
-    steps = v.loader.steps ++ stores_of (place_of v.shape.room region 0) image n;
+    images = v.loader.images ++ image ∷ [];
+    version = v.loader.version + 1;
+    epoch = v.loader.version + 1;
+    region = region;
+    retired = slice_set (slice_set v.loader.retired v.loader.region (Some v.loader.version)) region None;
+    cleared = w.loader.cleared;
+    steps = v.loader.steps ++ more;
   };
 }
+
+-- The image is published in the first spare region that no lane holds: each spare region before it has a holder.
+pub record IsPublished (image : List ℕ) (version : ℕ) (v w : View) : Type 0 where
+  pub next : version ≡ v.loader.version + 1
+  pub region : ℕ
+  pub there : region < v.shape.regions
+  pub spare : region ≢ v.loader.region
+  pub held : List Held
+  pub are_held : AreHeld v region held
+  pub pins : List ℕ
+  pub free : IsFreeBy region pins v.shape.lanes v.loader
+  pub few : AreFew (loads_for held ++ loads_of pins) v
+  pub view : w ≡ published region image ((loads_for held ++ loads_of pins) ++ publishing region image v) v w
+
+-- Each spare region has a holder, and but for loads of pins nothing was done.
+pub record IsBusy (hs : List Holder) (v w : View) : Type 0 where
+  pub held : List Held
+  pub are_held : AreHeld v v.shape.regions held
+  pub holders_are : hs ≡ holders_in held
+  pub few : AreFew (loads_for held) v
+  pub looked : Looked (loads_for held) v w
+
+-- The answer of a publication, where no version above the last one is published.
+abbrev pub Publishes : ℕ → List ℕ → LoaderSeat → LoaderSeat → Result ℕ PublishRefused → Type 0
+Publishes last image l m (Ok version) =
+    (l.version ≢ last) × IsPublished image version (view_of_loader l) (view_of_loader m) × (m.version ≡ version)
+Publishes last image l m (Err VersionsSpent) = (l.version ≡ last) × (m ≡ l)
+Publishes last image l m (Err (Busy hs)) =
+    (l.version ≢ last) × IsBusy hs.each.items (view_of_loader l) (view_of_loader m) × (m.version ≡ l.version)

@@ -38,11 +38,13 @@ impl Store {
     pub fn gather(self, loader: LoaderSeat, lanes: Vec<LaneSeat>) -> Shelf
         requires own { IsLoaderOf self loader }
         requires lanes { (k : ℕ) (d : LaneSeat) → k < length lanes.items → IsLaneOf self (slice_index_or lanes.items k d) }
+        ensures store { result.store.value ≡ self }
         ensures version { result.version ≡ loader.version }
         ensures kept { result.kept.value.me.0 ≡ with_kept (map lane_view lanes.items) (view_of_loader loader) }
         ensures gathered { IsGathered (first_of self) result.kept.value.me.0.loader }
     {
         the_rule_holds_in_every_schedule();
+        let store = Snapshot::of(&self);
         let Store {
             table,
             shape: _,
@@ -58,6 +60,10 @@ impl Store {
         let kept = Snapshot::of(&seat);
         let closed = table.close_with(seat);
         closed.free();
-        Shelf { version, kept }
+        Shelf {
+            version,
+            store,
+            kept,
+        }
     }
 }

@@ -3,7 +3,7 @@ ghost use Rattle.std.specs.Prelude.{◌≡◌, ◌<◌, Some, not, true, length}
 ghost use Rattle.epoch_core.specs.Steps.{is_past};
 ghost use Rattle.region_store.specs.Steps.{retirement_of};
 ghost use Rattle.region_store.specs.Store.{IsOn};
-ghost use Rattle.region_store.specs.Publishing.{FoundAt, FoundRegion};
+ghost use Rattle.region_store.specs.Finding.{FoundAt, FoundRegion};
 
 use crate::layout::pin_word;
 use crate::loader::{Holder, Holders};

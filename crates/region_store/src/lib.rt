@@ -12,20 +12,25 @@
 mod closing;
 mod finding;
 mod lane;
+mod laws;
 mod layout;
 mod loader;
 mod making;
 mod pinned;
 mod pinning;
 mod plays;
+mod publishing;
 mod shelf;
 mod steps;
 mod store;
+#[cfg(test)]
+mod tests;
 mod view;
 mod writing;
 
 pub use lane::LaneSeat;
-pub use loader::{Holder, Holders, LoaderSeat};
+pub use laws::the_image_of_a_use_fits;
+pub use loader::{Holder, Holders, LoaderSeat, PublishRefused};
 pub use pinned::Pinned;
 pub use shelf::Shelf;
 pub use store::Store;

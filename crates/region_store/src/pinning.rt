@@ -3,10 +3,10 @@ ghost use Rattle.std.specs.Prelude.{◌≡◌, ◌<◌, ◌≤◌, ◌+◌, ◌�
 ghost use Rattle.region_store.specs.declared.view.Did.TheVariants as did;
 ghost use Rattle.region_store.specs.Layout.{epoch_word, published_word, pin_place};
 ghost use Rattle.region_store.specs.Layout.{version_in, size_in};
-ghost use Rattle.region_store.specs.Steps.{use_of};
+ghost use Rattle.region_store.specs.Steps.{use_of, with_read};
 ghost use Rattle.region_store.specs.Ends.{IsLaneOf, uses_of, steps_of, uses_of_pin, steps_of_pin};
-ghost use Rattle.region_store.specs.Ends.{known_of_pin};
-ghost use Rattle.image_words.specs.Knowledge.{SomeFits};
+ghost use Rattle.region_store.specs.Ends.{known_of_pin, use_of_pin};
+ghost use Rattle.image_words.specs.Knowledge.{Learns, SomeFits};
 
 use crate::lane::LaneSeat;
 use crate::layout::{pin_word, region_word, unpack};
@@ -109,7 +109,15 @@ impl<'a> Words for Pinned<'a> {
         self.size
     }
 
-    fn word(&mut self, at: usize) -> u64 {
+    // one load, of the word at this place of its image
+    fn word(&mut self, at: usize) -> u64
+        requires { at < (known_of_pin self.old).size }
+        ensures learns { Learns (known_of_pin self.old) (known_of_pin self.new) at result }
+        ensures fits { SomeFits (known_of_pin self.old) → SomeFits (known_of_pin self.new) }
+        ensures reads { Reads self.old self.new }
+        ensures step { steps_of_pin self.new ≡ steps_of_pin self.old ++ did.Loaded (self.old.start + at) result ∷ [] }
+        ensures read { use_of_pin self.new ≡ with_read at result (use_of_pin self.old) }
+    {
         load_word(&self.store.table, &mut self.seat, self.start + at)
     }
 }

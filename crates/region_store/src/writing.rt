@@ -1,15 +1,15 @@
-//! How the loader publishes an image.
+//! How the loader writes an image.
 ghost use Rattle.std.specs.Prelude.{◌≡◌, ◌≤◌, [], length, true, None};
 ghost use Rattle.region_store.specs.Layout.{place_of};
 ghost use Rattle.region_store.specs.Store.{IsOn};
-ghost use Rattle.region_store.specs.Publishing.{IsFound, written};
+ghost use Rattle.region_store.specs.Finding.{IsFound, written};
 
 use crate::plays::Said;
 use crate::steps::store_word;
 use crate::view::{Place, Regioned};
 
 // Stores the words of an image into a region.
-fn write_image<W: Said>(
+pub(crate) fn write_image<W: Said>(
     table: &Regioned,
     seat: &mut Place,
     region: u32,

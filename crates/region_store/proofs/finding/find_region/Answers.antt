@@ -1,11 +1,12 @@
-use Rattle.std.proofs.Common.{◌≡◌, ◌≢◌, ℕ, ◌+◌, ◌-◌, ◌*◌, ◌<◌, ◌≤◌, List, [], ◌++◌, length, sym, ap, ◌∙◌, subst, arith, length-append, ⊎_elim, inl, inr}
+use Rattle.std.proofs.Common.{◌≡◌, ◌≢◌, ℕ, ◌+◌, ◌-◌, ◌*◌, ◌<◌, ◌≤◌, List, [], ◌∷◌, ◌++◌, length, sym, ap, ◌∙◌, subst, arith, length-append, ⊎_elim, inl, inr}
 use Rattle.std.proofs.lemmas.Bool.{cases_eq}
+use Rattle.std.proofs.lemmas.List.{length-map}
 use Rattle.std.proofs.lemmas.Bool.Decides.{leb_tells}
-use Rattle.region_store.specs.declared.loader.Holder.{Holder}
 use Rattle.region_store.specs.declared.view.Shape.{Shape}
 use Rattle.region_store.specs.declared.view.View.{View}
-use Rattle.region_store.specs.Publishing.{AreHolders, spare_below}
-use Rattle.region_store.proofs.LookLaws.{looked_none, looked_then, spare_skip, spare_more, spare_length, loads_more, loads_fit, holders_none, holders_skip, holders_more, holders_few, holder_back}
+use Rattle.region_store.specs.Holders.{loads_of, loads_for, holders_in, Held, AreHeld, spare_below}
+use Rattle.region_store.specs.Publishing.{Looked}
+use Rattle.region_store.proofs.LookLaws.{looked_none, looked_then, loads_length, spare_skip, spare_more, spare_length, loads_more, loads_fit, loads_for_more, holders_more, held_none, held_skip, held_more, held_few, held_back, free_back}
 use Rattle.region_store.proofs.finding.find_region.Goals as goal
 
 -- the regions before a spare one are fewer than the spare ones
@@ -31,10 +32,11 @@ loop-region-init c =
     let v : View = c.args.seat.now.me.0 in
     record {
       on = c.requires.on;
-      more = [];
+      held = [];
       few = omega arith;
       looked = looked_none v;
-      holders = subst (λ (l : List Holder). AreHolders [] v 0 l) (sym c.new-each.ensures) (holders_none v);
+      are_held = held_none v;
+      holders_are = c.new-each.ensures;
     }
 
 pub loop-region-preserved-then-region-published : goal.loop-region-preserved-then-region-published
@@ -44,10 +46,11 @@ loop-region-preserved-then-region-published c =
     let e : c.loop-region.region ≡ c.args.published = omega (arith, c.if-region-published.true) in
     record {
       on = inv.on;
-      more = inv.more;
-      few = subst (λ (l : List ℕ). length inv.more ≤ length l * c.args.lanes) (sym (spare_skip c.loop-region.region c.args.published e)) inv.few;
+      held = inv.held;
+      few = subst (λ (l : List ℕ). length (loads_for inv.held) ≤ length l * c.args.lanes) (sym (spare_skip c.loop-region.region c.args.published e)) inv.few;
       looked = inv.looked;
-      holders = holders_skip inv.more v c.loop-region.region _ (e ∙ c.requires.published.0) inv.holders;
+      are_held = held_skip v c.loop-region.region inv.held (e ∙ c.requires.published.0) inv.are_held;
+      holders_are = inv.holders_are;
     }
 
 pub returns-in-None-clause-found : goal.returns-in-None-clause-found
@@ -62,19 +65,29 @@ returns-in-None-clause-found c =
     let o : r ≢ p = λ e. omega (arith, e, c.if-region-published.false) in
     let there : r < v.shape.regions = omega (arith, c.loop-region-test.true, c.requires.retired.1, c.loop-region.auto.region-end) in
     let lanes_u : u.shape.lanes ≡ c.args.lanes = ap (λ (x : View). x.shape.lanes) inv.looked.same ∙ sym c.requires.lanes in
-    let all = looked_then inv.more found.more v u w inv.looked found.looked in
-    let loads = loads_more (length inv.more) (length found.more) (length (spare_below r p)) c.args.lanes inv.few (omega (arith, found.few, lanes_u)) in
-    let count : length (spare_below r p) + 1 ≤ v.shape.regions - 1 = spare_room r p v.shape.regions o there c.requires.published.1 in
-    record {
-      more = inv.more ++ found.more;
-      few = omega (arith, length-append inv.more found.more, loads_fit (length inv.more + length found.more) (length (spare_below r p) + 1) (v.shape.regions - 1) c.args.lanes loads count, ap (λ x. (v.shape.regions - 1) * x) c.requires.lanes);
-      looked = all;
-      answer = record {
-        there = omega (arith, there, ap (λ (x : View). x.shape.regions) all.same);
-        spare = λ e. o (e ∙ (ap (λ (x : View). x.loader.region) all.same ∙ sym c.requires.published.0));
-        free = found.answer;
-      };
-    }
+    let all = looked_then (loads_for inv.held) (loads_of found.pins) v u w inv.looked found.looked in
+    let few : length (loads_of found.pins) ≤ c.args.lanes = omega (arith, found.few, lanes_u, loads_length 0 found.pins) in
+    let loads = loads_more (length (loads_for inv.held)) (length (loads_of found.pins)) (length (spare_below r p)) c.args.lanes inv.few few in
+    let count : length (spare_below r p) + 1 ≤ v.shape.regions - 1 = spare_room r p v.shape.regions o there c.requires.published.1 in (
+      inv.held,
+      record {
+        found = record {
+          there = omega (arith, there, ap (λ (x : View). x.shape.regions) all.same);
+          spare = λ e. o (e ∙ (ap (λ (x : View). x.loader.region) all.same ∙ sym c.requires.published.0));
+          free = found.answer.1;
+        };
+        are_held = inv.are_held;
+        pins = found.pins;
+        free = free_back (loads_for inv.held) v u inv.looked r found.pins found.answer.0;
+        few = omega (
+          arith,
+          length-append (loads_for inv.held) (loads_of found.pins),
+          loads_fit (length (loads_for inv.held) + length (loads_of found.pins)) (length (spare_below r p) + 1) (v.shape.regions - 1) c.args.lanes loads count,
+          ap (λ x. (v.shape.regions - 1) * x) c.requires.lanes,
+        );
+        looked = all;
+      },
+    )
 
 pub push-requires : goal.push-requires
 push-requires c =
@@ -82,10 +95,10 @@ push-requires c =
     let v : View = c.args.seat.now.me.0 in
     let r : ℕ = c.loop-region.region in
     let there : r < v.shape.regions = omega (arith, c.loop-region-test.true, c.requires.retired.1, c.loop-region.auto.region-end) in
-    let count = holders_few inv.more v r _ inv.holders in
+    let count : length (holders_in inv.held) ≡ length (spare_below r v.loader.region) = length-map inv.held (λ (x : Held). x.0) ∙ held_few v r inv.held inv.are_held in
     let s = spare_few r v.loader.region in
     let few : v.shape.regions ≤ 8 = omega (arith, ap (λ (x : Shape). x.regions) c.requires.on.shape, c.requires.on.within.few_regions) in
-    omega (arith, count, s, there, few)
+    omega (arith, ap length inv.holders_are, count, s, there, few)
 
 pub loop-region-preserved : goal.loop-region-preserved
 loop-region-preserved c =
@@ -98,15 +111,19 @@ loop-region-preserved c =
     let p : ℕ = c.args.published in
     let o : r ≢ p = λ e. omega (arith, e, c.if-region-published.false) in
     let lanes_u : u.shape.lanes ≡ c.args.lanes = ap (λ (x : View). x.shape.lanes) inv.looked.same ∙ sym c.requires.lanes in
-    let loads = loads_more (length inv.more) (length found.more) (length (spare_below r p)) c.args.lanes inv.few (omega (arith, found.few, lanes_u)) in
+    let few : length (loads_of found.pins) ≤ c.args.lanes = omega (arith, found.few, lanes_u, loads_length 0 found.pins) in
+    let loads = loads_more (length (loads_for inv.held)) (length (loads_of found.pins)) (length (spare_below r p)) c.args.lanes inv.few few in
     let count : length (spare_below (r + 1) p) ≡ length (spare_below r p) + 1 = ap length (spare_more r p o) ∙ length-append (spare_below r p) _ in
+    let one : Held = (c.in-Some.holder, found.pins) in
+    let same : loads_for (inv.held ++ one ∷ []) ≡ loads_for inv.held ++ loads_of found.pins = loads_for_more inv.held one in
     record {
       on = c.in-Some.ensures.on;
-      more = inv.more ++ found.more;
-      few = omega (arith, length-append inv.more found.more, loads, ap (λ x. x * c.args.lanes) count);
-      looked = looked_then inv.more found.more v u w inv.looked found.looked;
-      holders = subst (AreHolders (inv.more ++ found.more) v (r + 1)) (sym c.push.ensures.items)
-          (holders_more inv.more found.more v r _ c.in-Some.holder (λ e. o (e ∙ sym c.requires.published.0)) inv.holders found.answer.0 (holder_back inv.more found.more v u c.in-Some.holder inv.looked found.answer.1));
+      held = inv.held ++ one ∷ [];
+      few = omega (arith, ap length same, length-append (loads_for inv.held) (loads_of found.pins), loads, ap (λ x. x * c.args.lanes) count);
+      looked = subst (λ l. Looked l v w) (sym same) (looked_then (loads_for inv.held) (loads_of found.pins) v u w inv.looked found.looked);
+      are_held = held_more v r inv.held one (λ e. o (e ∙ sym c.requires.published.0)) inv.are_held found.answer.0
+          (held_back (loads_for inv.held) v u inv.looked found.pins c.in-Some.holder found.answer.1);
+      holders_are = c.push.ensures.items ∙ (ap (λ l. l ++ c.in-Some.holder ∷ []) inv.holders_are ∙ sym (holders_more inv.held one));
     }
 
 pub returns-clause-found : goal.returns-clause-found
@@ -116,10 +133,12 @@ returns-clause-found c =
     let r : ℕ = c.loop-region.region in
     let p : ℕ = c.args.published in
     let end : r ≡ v.shape.regions = omega (arith, c.loop-region-test.false, c.requires.retired.1, c.loop-region.auto.region-end) in
-    let count : length (spare_below r p) ≡ v.shape.regions - 1 = omega (arith, (spare_length r p).1 (omega (arith, end, c.requires.published.1)), end) in
-    record {
-      more = inv.more;
-      few = omega (arith, inv.few, ap (λ x. x * c.args.lanes) count, ap (λ x. (v.shape.regions - 1) * x) c.requires.lanes);
-      looked = inv.looked;
-      answer = subst (λ (n : ℕ). AreHolders inv.more v n c.loop-region.each.items) end inv.holders;
-    }
+    let count : length (spare_below r p) ≡ v.shape.regions - 1 = omega (arith, (spare_length r p).1 (omega (arith, end, c.requires.published.1)), end) in (
+      inv.held,
+      record {
+        holders_are = inv.holders_are;
+        are_held = subst (λ (n : ℕ). AreHeld v n inv.held) end inv.are_held;
+        few = omega (arith, inv.few, ap (λ x. x * c.args.lanes) count, ap (λ x. (v.shape.regions - 1) * x) c.requires.lanes);
+        looked = inv.looked;
+      },
+    )

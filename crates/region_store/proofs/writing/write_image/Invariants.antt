@@ -1,6 +1,6 @@
 use Rattle.std.proofs.Common.{◌≡◌}
 use Rattle.region_store.specs.Store.{IsOn}
-use Rattle.region_store.specs.Publishing.{written}
+use Rattle.region_store.specs.Finding.{written}
 use Rattle.region_store.proofs.writing.write_image.Given as goal
 
 -- the words so far are stored
