@@ -1,12 +1,12 @@
 -- A region that is written is published, and the loader then rests again.
-use Rattle.std.proofs.Common.{◌≡◌, ℕ, ◌+◌, ◌<◌, ◌≤◌, ◌==◌, false, List, [], ◌∷◌, ◌++◌, length, set, replicate, Some, None}
+use Rattle.std.proofs.Common.{◌≡◌, ℕ, ◌+◌, ◌<◌, ◌≤◌, ◌==◌, false, List, [], ◌∷◌, ◌++◌, length, take, set, replicate, Some, None}
 use Rattle.std.proofs.Common.{refl, sym, ap, ◌∙◌, subst, arith, append_assoc, ne_eqb}
 use Rattle.std.proofs.lemmas.Bool.{cond-false}
 use Rattle.std.proofs.lemmas.List.{take_all}
 use Rattle.region_store.specs.declared.view.Did.{Did}
 use Rattle.region_store.specs.declared.view.Did.TheVariants as did
 use Rattle.region_store.specs.declared.view.View.{View}
-use Rattle.region_store.specs.Layout.{place_of, published_word, epoch_word, packed, region_in}
+use Rattle.region_store.specs.Layout.{place_of, published_word, epoch_word, version_weight, packed, region_in}
 use Rattle.region_store.specs.Images.{IsLike}
 use Rattle.region_store.specs.Steps.{loader_did, with_published, with_next}
 use Rattle.region_store.specs.May.{MayPublish, MayFollow}
@@ -19,6 +19,15 @@ use Rattle.region_store.proofs.PlaceLaws.{region_back}
 pub image_low : (first image : List ℕ) → IsLike first image → 1 ≤ length image
 image_low first image like = omega (arith, like.encodes.header, like.encodes.whole)
 
+-- the images begin as before where one is added
+begins_more : (first : List ℕ) (xs ys : List (List ℕ)) → take 1 xs ≡ first ∷ [] → take 1 (xs ++ ys) ≡ first ∷ []
+begins_more first [] ys e = absurd (cc e)
+begins_more first (x ∷ xs) ys e = e
+
+pub begins_still : (first : List ℕ) (image : List ℕ) (before after new : List (List ℕ)) → after ≡ before → new ≡ after ++ image ∷ [] → take 1 before ≡ first ∷ [] → take 1 new ≡ first ∷ []
+begins_still first image before after new same is begins =
+    ap (take 1) is ∙ begins_more first after (image ∷ []) (ap (take 1) same ∙ begins)
+
 module _ (region version r : ℕ) (image : List ℕ) (v : View) (rests : LoaderRests version r v) (some : 1 ≤ length image) where
   abbrev all : ℕ
   all = length image
@@ -29,7 +38,7 @@ module _ (region version r : ℕ) (image : List ℕ) (v : View) (rests : LoaderR
   pub draft_is : (written region image (length image) v).loader.draft ≡ image
   draft_is = take_all all image (omega arith)
 
-  pub may_publish : (u : View) → u ≡ written region image (length image) v → version < 4294967295 → MayPublish (packed (version + 1) region (length image)) region u
+  pub may_publish : (u : View) → u ≡ written region image (length image) v → version + 1 < version_weight → MayPublish (packed (version + 1) region (length image)) region u
   may_publish u is more =
       let then : MayPublish (packed (version + 1) region all) region (written region image all v) = record {
         may = rests.is_loader;
@@ -115,6 +124,7 @@ module _ (region version r : ℕ) (image : List ℕ) (loads : List Did) (v u w :
       let then : LoaderRests (version + 1) region (from (record v { loader = record v.loader { cleared = u.loader.cleared; steps = v.loader.steps ++ loads } })) = record {
         is_loader = rests.is_loader;
         no_lane = rests.no_lane;
+        none_kept = rests.none_kept;
         version_is = ap (λ n. n + 1) rests.version_is;
         region_is = refl;
         epoch_is = ap (λ n. n + 1) rests.epoch_is;
@@ -134,6 +144,7 @@ module _ (version r : ℕ) (loads : List Did) (v u : View) (looked : Looked load
       let then : LoaderRests version r (record v { loader = record v.loader { cleared = u.loader.cleared; steps = v.loader.steps ++ loads } }) = record {
         is_loader = rests.is_loader;
         no_lane = rests.no_lane;
+        none_kept = rests.none_kept;
         version_is = rests.version_is;
         region_is = rests.region_is;
         epoch_is = rests.epoch_is;

@@ -1,11 +1,12 @@
 -- A store, its seats and a pin, as their callers see them.
-use Rattle.std.specs.Prelude.{◌≡◌, ℕ, List, ◌++◌}
+use Rattle.std.specs.Prelude.{◌≡◌, ℕ, ◌+◌, List, ◌++◌, map, reverse}
 use Rattle.atomic_table.specs.Seated.{TableId}
 use Rattle.image_words.specs.Knowledge.{Knowledge}
 use Rattle.region_store.specs.declared.store.Store.{Store}
 use Rattle.region_store.specs.declared.lane.LaneSeat.{LaneSeat}
 use Rattle.region_store.specs.declared.pinned.Pinned.{Pinned}
 use Rattle.region_store.specs.declared.view.Did.{Did}
+use Rattle.region_store.specs.declared.view.Did.TheVariants as did
 use Rattle.region_store.specs.declared.view.Read.{Read}
 use Rattle.region_store.specs.declared.view.Use.{Use}
 use Rattle.region_store.specs.declared.view.Shape.{Shape}
@@ -56,16 +57,20 @@ use_of_pin p = use_held (view_of_pin p).lane.held
 abbrev pub known_of_pin : Pinned → Knowledge
 known_of_pin p = knowledge_of (view_of_pin p).shape.buses (use_of_pin p)
 
--- words were read: the words of the last use and the steps grew, and nothing else changed
+-- the loads of these words of an image that begins at a place, the last one first
+abbrev pub loads_at : ℕ → List Read → List Did
+loads_at start more = map (λ (r : Read). did.Loaded (start + r.at) r.word) (reverse more)
+
+-- words were read: the words of the last use and their loads grew, and nothing else changed
 pub record Reads (p q : Pinned) : Type 0 where
   pub store : q.store ≡ p.store
   pub lane : q.lane ≡ p.lane
   pub version : q.version ≡ p.version
   pub size : q.size ≡ p.size
+  pub start : q.start ≡ p.start
   pub id : q.seat.table_id ≡ p.seat.table_id
   pub shape : (view_of_pin q).shape ≡ (view_of_pin p).shape
   pub used : (view_of_pin q).lane.used ≡ (view_of_pin p).lane.used
   pub more : List Read
   pub words : use_of_pin q ≡ record (use_of_pin p) { words = more ++ (use_of_pin p).words }
-  pub did_more : List Did
-  pub steps : steps_of_pin q ≡ steps_of_pin p ++ did_more
+  pub steps : steps_of_pin q ≡ steps_of_pin p ++ loads_at p.start more

@@ -32,6 +32,10 @@ most_lanes = 16
 abbrev pub most_room : ℕ
 most_room = 1048576
 
+-- and lines of a pin
+abbrev pub most_lines : ℕ
+most_lines = 64
+
 -- the first word of the first region, behind the pins of the most lanes
 abbrev pub first_region : ℕ
 first_region = 288

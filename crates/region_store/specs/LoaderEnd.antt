@@ -1,5 +1,5 @@
 -- The loader's seat, and the seats of all lanes, as their callers see them.
-use Rattle.std.specs.Prelude.{◌≡◌, ℕ, ◌<◌, ◌≤◌, ◌++◌, List, length, slice_index_or}
+use Rattle.std.specs.Prelude.{◌≡◌, ℕ, ◌<◌, ◌≤◌, [], ◌∷◌, ◌++◌, List, length, take, slice_index_or}
 use Rattle.atomic_table.specs.Seated.{TableId}
 use Rattle.region_store.specs.declared.store.Store.{Store}
 use Rattle.region_store.specs.declared.lane.LaneSeat.{LaneSeat}
@@ -10,7 +10,7 @@ use Rattle.region_store.specs.declared.view.LaneView.{LaneView}
 use Rattle.region_store.specs.declared.view.View.{View}
 use Rattle.region_store.specs.Rule.{first_lane}
 use Rattle.region_store.specs.Store.{IsOn}
-use Rattle.region_store.specs.Ends.{store_id}
+use Rattle.region_store.specs.Ends.{store_id, first_of}
 
 abbrev pub view_of_loader : LoaderSeat → View
 view_of_loader l = l.seat.me.0
@@ -22,10 +22,11 @@ images_of l = (view_of_loader l).loader.images
 abbrev pub steps_of_loader : LoaderSeat → List Did
 steps_of_loader l = (view_of_loader l).loader.steps
 
--- the seat was made with this store, and published no version above its last
+-- the seat was made with this store, its first image is the store's, and it published no version above the last
 pub record IsLoaderOf (s : Store) (l : LoaderSeat) : Type 0 where
   pub on : IsOn (store_id s) s.table.shared.key l.seat
   pub low : l.version ≤ s.last
+  pub begins : take 1 (images_of l) ≡ first_of s ∷ []
 
 abbrev pub with_made : ℕ → View → View
 with_made count v = record v { loader = record v.loader { made = count } }

@@ -4,7 +4,7 @@ use Rattle.epoch_core.specs.declared.lane.LaneState.TheVariants.{Idle, Loaded, P
 use Rattle.epoch_core.specs.Machine.{pin_for}
 use Rattle.region_store.specs.declared.view.Use.{Use}
 use Rattle.region_store.specs.declared.view.View.{View}
-use Rattle.region_store.specs.Layout.{pin_place, place_of, packed}
+use Rattle.region_store.specs.Layout.{pin_place, place_of, version_weight, packed}
 use Rattle.region_store.specs.Steps.{retirement_of, is_clear}
 
 -- a lane that does nothing loads the epoch
@@ -63,7 +63,7 @@ pub record MayPublish (n region : ℕ) (v : View) : Type 0 where
   pub may : v.is_loader ≡ true
   pub writing : v.loader.writing ≡ Some region
   pub now : v.loader.epoch ≡ v.loader.version
-  pub more : v.loader.version < 4294967295
+  pub more : v.loader.version + 1 < version_weight
   pub word : n ≡ packed (v.loader.version + 1) region (length v.loader.draft)
 
 -- and stores the epoch

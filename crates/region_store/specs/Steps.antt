@@ -14,7 +14,7 @@ use Rattle.region_store.specs.declared.view.Shape.{Shape}
 use Rattle.region_store.specs.declared.view.LaneView.{LaneView}
 use Rattle.region_store.specs.declared.view.LoaderView.{LoaderView}
 use Rattle.region_store.specs.declared.view.View.{View}
-use Rattle.region_store.specs.Layout.{place_of, lane_at, version_in, region_in, size_in}
+use Rattle.region_store.specs.Layout.{place_of, lane_at, version_weight, version_in, region_in, size_in}
 use Rattle.region_store.specs.Uses.{known_in, knowledge_of}
 use Rattle.region_store.specs.Rule.{first_lane, first_loader}
 
@@ -60,7 +60,7 @@ saw_epoch st n v = with_epoch n v.lane
 
 -- an epoch is no higher than the version
 abbrev pub epoch_shown : At → ℕ → View → Type 0
-epoch_shown st n v = n < 4294967296
+epoch_shown st n v = n < version_weight
 
 -- it has stored its pin
 abbrev pub with_pin : LaneView → LaneView
@@ -85,7 +85,7 @@ saw_published lines st n v = with_hold lines n v.lane
 -- the version is not below any that it used, the region is there and has room for the image, and some list fits
 pub record IsFresh (lines n : ℕ) (v : View) : Type 0 where
   pub newest : All (λ u. u.version ≤ version_in n) v.lane.used
-  pub small : version_in n < 4294967296
+  pub small : version_in n < version_weight
   pub region : region_in n < v.shape.regions
   pub room : size_in n ≤ v.shape.room
   pub fits : SomeFits (knowledge_of v.shape.buses (use_of lines n))

@@ -44,6 +44,7 @@ pub record LaneRests (lane : ℕ) (v : View) : Type 0 where
 pub record LoaderRests (version region : ℕ) (v : View) : Type 0 where
   pub is_loader : v.is_loader ≡ true
   pub no_lane : v.is_lane ≡ false
+  pub none_kept : v.loader.kept ≡ []
   pub version_is : v.loader.version ≡ version
   pub region_is : v.loader.region ≡ region
   pub epoch_is : v.loader.epoch ≡ version

@@ -3,7 +3,7 @@
 //!
 //! It stands on the kit's `atomic_table`, whose words are the published word, the epoch, the pins and the regions,
 //! on `epoch_core`, a state of whose machine the table shows, and on `image_words` and `bench_model`, which say what
-//! an image is. The decoding of a bus will read its images through `Words`.
+//! an image is. A version is read through `Words`.
 //!
 //! Main theorem: whatever the loader and the other lanes do in between, the words that a lane reads under one pin
 //! are words of one image that fits all of them, the last one published when the pin was made.

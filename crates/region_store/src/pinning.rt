@@ -1,11 +1,11 @@
 //! How a lane takes hold of a version, reads its words and lets it go.
-ghost use Rattle.std.specs.Prelude.{◌≡◌, ◌<◌, ◌≤◌, ◌+◌, ◌∷◌, ◌++◌, [], ℕ, All};
+ghost use Rattle.std.specs.Prelude.{◌≡◌, ◌<◌, ◌≤◌, ◌+◌, ◌∷◌, ◌++◌, [], ℕ, All, slice_index};
 ghost use Rattle.region_store.specs.declared.view.Did.TheVariants as did;
 ghost use Rattle.region_store.specs.Layout.{epoch_word, published_word, pin_place};
-ghost use Rattle.region_store.specs.Layout.{version_in, size_in};
+ghost use Rattle.region_store.specs.Layout.{most_lines, place_of, version_in, region_in, size_in};
 ghost use Rattle.region_store.specs.Steps.{use_of, with_read};
 ghost use Rattle.region_store.specs.Ends.{IsLaneOf, uses_of, steps_of, uses_of_pin, steps_of_pin};
-ghost use Rattle.region_store.specs.Ends.{known_of_pin, use_of_pin};
+ghost use Rattle.region_store.specs.Ends.{shape_of, first_of, known_of_pin, use_of_pin};
 ghost use Rattle.image_words.specs.Knowledge.{Learns, SomeFits};
 
 use crate::lane::LaneSeat;
@@ -27,7 +27,9 @@ impl Store {
             ++ (did.Loaded epoch_word epoch ∷ did.Stored (pin_place seat.lane) (epoch + 1)
             ∷ did.Loaded published_word found ∷ []))
             × (uses_of_pin result ≡ uses_of seat ++ use_of lines found ∷ [])
-            × (version_in found ≡ result.version) × (size_in found ≡ result.size))) }
+            × (version_in found ≡ result.version) × (size_in found ≡ result.size)
+            × (result.start ≡ place_of (shape_of self.now).room (region_in found) 0))) }
+        ensures buses { (known_of_pin result).buses ≡ slice_index (first_of self.now) 1 }
         ensures newest { All (λ u. u.version ≤ result.version) (uses_of seat) }
         ensures fits { SomeFits (known_of_pin result) }
     {
@@ -50,14 +52,16 @@ impl Store {
     /// published word. It takes no memory and waits for nothing.
     pub fn pin(&self, seat: LaneSeat, lines: u32) -> Pinned<'_>
         requires own { IsLaneOf self.now seat }
-        requires lines { (1 ≤ lines) × (lines ≤ 64) }
+        requires lines { (1 ≤ lines) × (lines ≤ most_lines) }
         ensures store { result.store.now ≡ self.now }
         ensures lane { result.lane ≡ seat.lane }
         ensures steps { (epoch : ℕ) × ((found : ℕ) × ((steps_of_pin result ≡ steps_of seat
             ++ (did.Loaded epoch_word epoch ∷ did.Stored (pin_place seat.lane) (epoch + 1)
             ∷ did.Loaded published_word found ∷ []))
             × (uses_of_pin result ≡ uses_of seat ++ use_of lines found ∷ [])
-            × (version_in found ≡ result.version) × (size_in found ≡ result.size))) }
+            × (version_in found ≡ result.version) × (size_in found ≡ result.size)
+            × (result.start ≡ place_of (shape_of self.now).room (region_in found) 0))) }
+        ensures buses { (known_of_pin result).buses ≡ slice_index (first_of self.now) 1 }
         ensures newest { All (λ u. u.version ≤ result.version) (uses_of seat) }
         ensures fits { SomeFits (known_of_pin result) }
     {
@@ -114,6 +118,7 @@ impl<'a> Words for Pinned<'a> {
         requires { at < (known_of_pin self.old).size }
         ensures learns { Learns (known_of_pin self.old) (known_of_pin self.new) at result }
         ensures fits { SomeFits (known_of_pin self.old) → SomeFits (known_of_pin self.new) }
+        ensures some { SomeFits (known_of_pin self.new) }
         ensures reads { Reads self.old self.new }
         ensures step { steps_of_pin self.new ≡ steps_of_pin self.old ++ did.Loaded (self.old.start + at) result ∷ [] }
         ensures read { use_of_pin self.new ≡ with_read at result (use_of_pin self.old) }

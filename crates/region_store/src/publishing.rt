@@ -1,5 +1,6 @@
 //! How the loader publishes an image.
-ghost use Rattle.std.specs.Prelude.{◌≡◌, ◌<◌, ◌≤◌, length, true};
+ghost use Rattle.std.specs.Prelude.{◌≡◌, ◌+◌, ◌<◌, ◌≤◌, length};
+ghost use Rattle.region_store.specs.Layout.{version_weight};
 ghost use Rattle.region_store.specs.Store.{IsOn, LoaderRests};
 ghost use Rattle.region_store.specs.Images.{IsLike};
 ghost use Rattle.region_store.specs.Ends.{shape_of, first_of};
@@ -23,7 +24,7 @@ impl Store {
         requires said { W.number ≡ region }
         requires on { IsOn self.now.table.shared.table_id self.now.table.shared.key seat.old }
         requires rests { LoaderRests version seat.old.me.0.loader.region seat.old.me.0 }
-        requires more { version < 4294967295 }
+        requires more { version + 1 < version_weight }
         requires found { IsFound seat.old.me.0 region }
         requires image { IsLike (first_of self.now) image.now }
         requires room { length image.now ≤ (shape_of self.now).room }

@@ -2,7 +2,7 @@
 ghost use Rattle.std.specs.Prelude.{◌≡◌, ◌+◌, ◌<◌, ◌≤◌, ◌∷◌, ◌++◌, [], ℕ, true, false, Some};
 ghost use Rattle.region_store.specs.declared.view.Did.TheVariants as did;
 ghost use Rattle.region_store.specs.declared.view.Use.{Use};
-ghost use Rattle.region_store.specs.Layout.{published_word, epoch_word, lane_at, region_in};
+ghost use Rattle.region_store.specs.Layout.{published_word, epoch_word, lane_at, version_weight, region_in};
 ghost use Rattle.region_store.specs.Images.{IsLike};
 ghost use Rattle.region_store.specs.Store.{IsOn};
 ghost use Rattle.region_store.specs.May.{MayLoad, MayPin, MayHold, MayRead, MayLetGo};
@@ -29,7 +29,7 @@ pub(crate) fn load_epoch(table: &Regioned, seat: &mut Place) -> u64
         ≡ record seat.old.me.0 {
           lane = lane_did (with_epoch result seat.old.me.0.lane) (did.Loaded epoch_word result);
         } }
-    ensures low { result < 4294967296 }
+    ensures low { result < version_weight }
 {
     the_rule_holds_in_every_schedule();
     table.shared.load::<SeeEpoch>(seat, EPOCH)
@@ -68,7 +68,8 @@ pub(crate) fn load_published<W: Said>(table: &Regioned, seat: &mut Place, lines:
 // It loads a word of the image that it holds.
 pub(crate) fn load_word(table: &Regioned, seat: &mut Place, word: usize) -> u64
     requires on { IsOn table.now.shared.table_id table.now.shared.key seat.old }
-    requires may { (at : ℕ) × ((epoch : ℕ) × ((version : ℕ) × ((region : ℕ) × ((u : Use) × MayRead word at epoch version region u seat.old.me.0)))) }
+    requires may { (at : ℕ) × ((epoch : ℕ) × ((version : ℕ) × ((region : ℕ)
+        × ((u : Use) × MayRead word at epoch version region u seat.old.me.0)))) }
     requires inside { word < table.now.shared.table_id.words }
     ensures on { IsOn table.now.shared.table_id table.now.shared.key seat.new }
     ensures seen { seat.new.me.0

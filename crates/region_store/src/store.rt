@@ -1,5 +1,5 @@
 //! A store.
-ghost use Rattle.std.specs.Prelude.{◌≡◌};
+ghost use Rattle.std.specs.Prelude.{◌≡◌, slice_index};
 ghost use Rattle.region_store.specs.Layout.{word_count};
 ghost use Rattle.region_store.specs.Rule.{IsWithin};
 
@@ -15,4 +15,5 @@ pub struct Store {
     ghost sized: { table.shared.table_id.words ≡ word_count shape.regions shape.room },
     ghost slotless: { table.shared.table_id.slots ≡ 0 },
     ghost within: { IsWithin shape },
+    ghost buses: { shape.buses ≡ slice_index table.shared.key.first.value.items 1 },
 }

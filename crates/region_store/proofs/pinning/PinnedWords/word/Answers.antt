@@ -4,7 +4,7 @@ use Rattle.region_store.specs.declared.view.View.{View}
 use Rattle.region_store.specs.declared.view.Shape.{Shape}
 use Rattle.region_store.specs.Layout.{place_of, word_count}
 use Rattle.region_store.specs.Uses.{use_held}
-use Rattle.region_store.specs.Steps.{at_in, region_held}
+use Rattle.region_store.specs.Steps.{at_in, region_held, with_read}
 use Rattle.region_store.proofs.PlaceLaws.{place_low, place_more, place_back, count_low}
 use Rattle.region_store.proofs.ReadLaws.{word_learns, pin_after}
 use Rattle.region_store.proofs.pinning.PinnedWords.word.Goals as goal
@@ -80,11 +80,11 @@ returns-clause-reads c =
       lane = refl;
       version = refl;
       size = refl;
+      start = refl;
       id = c.load_word.ensures.on.own ∙ sym p.on.own;
       shape = ap (λ (v : View). v.shape) seen;
       used = ap (λ (v : View). v.lane.used) seen;
-      more = record { at = _; word = c.load_word.result } ∷ [];
-      words = pin_after p.seat.me.0 _ _ c.load_word.result _ seen p.rests.held;
-      did_more = _ ∷ [];
+      more = record { at = c.args.at; word = c.load_word.result } ∷ [];
+      words = pin_after p.seat.me.0 _ _ c.load_word.result _ seen p.rests.held ∙ ap (λ (k : ℕ). with_read k c.load_word.result (use_held p.seat.me.0.lane.held)) (back p c.args.at c.requires);
       steps = ap (λ (v : View). v.lane.steps) seen;
     }
