@@ -61,7 +61,8 @@ HasTree text noted messages x parents =
     IsTree (message_marks x.1) (message_links text noted (is_first_message messages x.0 x.1) x.1) parents
 
 -- the message that a statement, the notes and the marks make
-pub record IsMessageAt (text : List ℕ) (utf8 : Bool) (noted : Noted) (messages : List MessageForm) (x : ℕ × MessageForm) (m : Message) : Type 0 where
+pub record IsMessageAt (text : List ℕ) (utf8 : Bool) (noted : Noted) (messages : List MessageForm)
+    (x : ℕ × MessageForm) (m : Message) : Type 0 where
   pub name : m.name ≡ token_text text x.1.heading.name
   pub key : m.key ≡ message_key x.1
   pub byte_count : m.length ≡ x.1.heading.byte_count
@@ -96,7 +97,8 @@ abbrev pub HasSomeTree : List ℕ → Noted → List MessageForm → ℕ × Mess
 HasSomeTree text noted messages x = (parents : List (Option Parent)) × HasTree text noted messages x parents
 
 -- the first message whose marks and links have a fault, and the signal at which they have it
-pub record IsFirstTreeless (text : List ℕ) (noted : Noted) (messages : List MessageForm) (id : ℕ) (name : List ℕ) (why : MuxWhy) : Type 0 where
+pub record IsFirstTreeless (text : List ℕ) (noted : Noted) (messages : List MessageForm)
+    (id : ℕ) (name : List ℕ) (why : MuxWhy) : Type 0 where
   pub before : List MessageForm
   pub message : MessageForm
   pub after : List MessageForm
@@ -106,7 +108,9 @@ pub record IsFirstTreeless (text : List ℕ) (noted : Noted) (messages : List Me
   pub signal : ℕ
   pub form : SignalForm
   pub form_is : slice_get message.signals signal ≡ Some form
-  pub fault : IsFault (message_marks message) (message_links text noted (is_first_message messages place message) message) (mux.At signal why)
+  pub fault :
+      IsFault (message_marks message) (message_links text noted (is_first_message messages place message) message)
+      (mux.At signal why)
   pub first : AllByRecursion (HasSomeTree text noted messages) (enumerate_from 0 before)
   pub id_is : id ≡ fault_id (message_key message)
   pub name_is : name ≡ token_text text form.name

@@ -29,7 +29,8 @@ IsLexOrMemory text (faults.Mux id signal why) = ⊥
 IsLexOrMemory text (faults.Check fault) = ⊥
 
 -- a message's marks and links have a fault at a signal, and this names both
-pub record NamesSignal (text : List ℕ) (m : MessageForm) (marks : List Mark) (links : List Link) (id : ℕ) (name : List ℕ) (why : MuxWhy) : Type 0 where
+pub record NamesSignal (text : List ℕ) (m : MessageForm) (marks : List Mark) (links : List Link)
+    (id : ℕ) (name : List ℕ) (why : MuxWhy) : Type 0 where
   pub signal : ℕ
   pub form : SignalForm
   pub form_is : slice_get m.signals signal ≡ Some form

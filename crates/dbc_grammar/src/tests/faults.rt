@@ -13,7 +13,12 @@ const FAULTS: [(&[u8], &str); 20] = [
     (b"VERSION \"", "string 8"),
     (b"VERSION", "statement 0"),
     (
-        b"VERSION \"\"\nNS_ :\n\tNS_DESC_\n\tCM_\n\tBA_DEF_\n\tVAL_\nBS_:\nBU_: ECU Tester\nBO_ 256 Engine: 8 ECU\n SG_ Speed : 0|16@1+ (0.25,0) [0|16383.75] \"rpm\" Tester\n SG_ Oil : 16|8@1- (1,40) [-88|167] \"\xB0C\" Tester\n SG_ Gear : 24|4@1+ (1,0) [0|15] \"\" Tester\nCM_ SG_ 256 Gear \"Gear; as shown\";\nBA_DEF_ BO_ \"GenMsgCycleTime\" INT 0 1000;\nBA_ \"GenMsgCycleTime\" BO_ 256 100;\nVAL_ 256 Gear 0 \"Neutral\" 1 \"First\" ;\n",
+        b"VERSION \"\"\nNS_ :\n\tNS_DESC_\n\tCM_\n\tBA_DEF_\n\tVAL_\nBS_:\nBU_: ECU Tester\n\
+          BO_ 256 Engine: 8 ECU\n SG_ Speed : 0|16@1+ (0.25,0) [0|16383.75] \"rpm\" Tester\n \
+          SG_ Oil : 16|8@1- (1,40) [-88|167] \"\xB0C\" Tester\n \
+          SG_ Gear : 24|4@1+ (1,0) [0|15] \"\" Tester\nCM_ SG_ 256 Gear \"Gear; as shown\";\n\
+          BA_DEF_ BO_ \"GenMsgCycleTime\" INT 0 1000;\nBA_ \"GenMsgCycleTime\" BO_ 256 100;\n\
+          VAL_ 256 Gear 0 \"Neutral\" 1 \"First\" ;\n",
         "ok 1 3",
     ),
     (
@@ -21,31 +26,53 @@ const FAULTS: [(&[u8], &str); 20] = [
         "scale 36",
     ),
     (
-        b"VERSION \"\"\nBO_ 256 Engine: 8 ECU\n SG_ Speed : 0|16@1+ (1,0) [0|0] \"\" Vector__XXX\nSIG_VALTYPE_ 256 Speed : 1;\n",
+        b"VERSION \"\"\nBO_ 256 Engine: 8 ECU\n SG_ Speed : 0|16@1+ (1,0) [0|0] \"\" Vector__XXX\n\
+          SIG_VALTYPE_ 256 Speed : 1;\n",
         "float 256 Speed",
     ),
     (
-        b"VERSION \"\"\nBO_ 256 Engine: 8 ECU\n SG_ Speed : 0|16@1+ (1,0) [0|0] \"\" Vector__XXX\nSIG_VALTYPE_ 256 Speed : 1;\nSIG_VALTYPE_ 256 Speed 0;\n",
+        b"VERSION \"\"\nBO_ 256 Engine: 8 ECU\n SG_ Speed : 0|16@1+ (1,0) [0|0] \"\" Vector__XXX\n\
+          SIG_VALTYPE_ 256 Speed : 1;\nSIG_VALTYPE_ 256 Speed 0;\n",
         "ok 1 1",
     ),
     (
-        b"VERSION \"\"\nBO_ 256 Engine: 8 ECU\n SG_ Speed : 0|16@1+ (1,0) [0|0] \"\" Vector__XXX\nSIG_VALTYPE_ 256 Speed : 0;\nSIG_VALTYPE_ 256 Speed 02;\n",
+        b"VERSION \"\"\nBO_ 256 Engine: 8 ECU\n SG_ Speed : 0|16@1+ (1,0) [0|0] \"\" Vector__XXX\n\
+          SIG_VALTYPE_ 256 Speed : 0;\nSIG_VALTYPE_ 256 Speed 02;\n",
         "float 256 Speed",
     ),
     (
-        b"BO_ 512 Mux: 8 ECU\n SG_ Top M : 0|8@1+ (1,0) [0|0] \"\" Vector__XXX\n SG_ Mid m1M : 0|8@1+ (1,0) [0|0] \"\" Vector__XXX\n SG_ Low m2M : 0|8@1+ (1,0) [0|0] \"\" Vector__XXX\nSG_MUL_VAL_ 512 Mid Low 1-1;\nSG_MUL_VAL_ 512 Low Mid 2-3;\n",
+        b"BO_ 512 Mux: 8 ECU\n SG_ Top M : 0|8@1+ (1,0) [0|0] \"\" Vector__XXX\n \
+          SG_ Mid m1M : 0|8@1+ (1,0) [0|0] \"\" Vector__XXX\n \
+          SG_ Low m2M : 0|8@1+ (1,0) [0|0] \"\" Vector__XXX\nSG_MUL_VAL_ 512 Mid Low 1-1;\n\
+          SG_MUL_VAL_ 512 Low Mid 2-3;\n",
         "mux 512 Mid cycle",
     ),
     (
-        b"BO_ 512 Mux: 8 ECU\n SG_ Top M : 0|8@1+ (1,0) [0|0] \"\" Vector__XXX\n SG_ Mid m1M : 0|8@1+ (1,0) [0|0] \"\" Vector__XXX\n SG_ Low m2 : 0|8@1+ (1,0) [0|0] \"\" Vector__XXX\nSG_MUL_VAL_ 512 Mid Nope 1-1;\n",
+        b"BO_ 512 Mux: 8 ECU\n SG_ Top M : 0|8@1+ (1,0) [0|0] \"\" Vector__XXX\n \
+          SG_ Mid m1M : 0|8@1+ (1,0) [0|0] \"\" Vector__XXX\n \
+          SG_ Low m2 : 0|8@1+ (1,0) [0|0] \"\" Vector__XXX\nSG_MUL_VAL_ 512 Mid Nope 1-1;\n",
         "mux 512 Mid noparent",
     ),
     (
-        b"BO_ 512 Mux: 8 ECU\n SG_ P M : 0|8@1+ (1,0) [0|0] \"\" Vector__XXX\n SG_ Q M : 0|8@1+ (1,0) [0|0] \"\" Vector__XXX\n SG_ C m1 : 0|8@1+ (1,0) [0|0] \"\" Vector__XXX\n",
+        b"BO_ 512 Mux: 8 ECU\n SG_ P M : 0|8@1+ (1,0) [0|0] \"\" Vector__XXX\n \
+          SG_ Q M : 0|8@1+ (1,0) [0|0] \"\" Vector__XXX\n SG_ C m1 : 0|8@1+ (1,0) [0|0] \"\" Vector__XXX\n\
+          ",
         "mux 512 C ambiguous",
     ),
     (
-        b"BO_ 512 Mux: 8 ECU\n SG_ S0 M : 0|8@1+ (1,0) [0|0] \"\" Vector__XXX\n SG_ S1 m1M : 0|8@1+ (1,0) [0|0] \"\" Vector__XXX\n SG_ S2 m1M : 0|8@1+ (1,0) [0|0] \"\" Vector__XXX\n SG_ S3 m1M : 0|8@1+ (1,0) [0|0] \"\" Vector__XXX\n SG_ S4 m1M : 0|8@1+ (1,0) [0|0] \"\" Vector__XXX\n SG_ S5 m1M : 0|8@1+ (1,0) [0|0] \"\" Vector__XXX\n SG_ S6 m1M : 0|8@1+ (1,0) [0|0] \"\" Vector__XXX\n SG_ S7 m1M : 0|8@1+ (1,0) [0|0] \"\" Vector__XXX\n SG_ S8 m1M : 0|8@1+ (1,0) [0|0] \"\" Vector__XXX\n SG_ S9 m1M : 0|8@1+ (1,0) [0|0] \"\" Vector__XXX\nSG_MUL_VAL_ 512 S1 S0 1-1;\nSG_MUL_VAL_ 512 S2 S1 1-1;\nSG_MUL_VAL_ 512 S3 S2 1-1;\nSG_MUL_VAL_ 512 S4 S3 1-1;\nSG_MUL_VAL_ 512 S5 S4 1-1;\nSG_MUL_VAL_ 512 S6 S5 1-1;\nSG_MUL_VAL_ 512 S7 S6 1-1;\nSG_MUL_VAL_ 512 S8 S7 1-1;\nSG_MUL_VAL_ 512 S9 S8 1-1;\n",
+        b"BO_ 512 Mux: 8 ECU\n SG_ S0 M : 0|8@1+ (1,0) [0|0] \"\" Vector__XXX\n \
+          SG_ S1 m1M : 0|8@1+ (1,0) [0|0] \"\" Vector__XXX\n \
+          SG_ S2 m1M : 0|8@1+ (1,0) [0|0] \"\" Vector__XXX\n \
+          SG_ S3 m1M : 0|8@1+ (1,0) [0|0] \"\" Vector__XXX\n \
+          SG_ S4 m1M : 0|8@1+ (1,0) [0|0] \"\" Vector__XXX\n \
+          SG_ S5 m1M : 0|8@1+ (1,0) [0|0] \"\" Vector__XXX\n \
+          SG_ S6 m1M : 0|8@1+ (1,0) [0|0] \"\" Vector__XXX\n \
+          SG_ S7 m1M : 0|8@1+ (1,0) [0|0] \"\" Vector__XXX\n \
+          SG_ S8 m1M : 0|8@1+ (1,0) [0|0] \"\" Vector__XXX\n \
+          SG_ S9 m1M : 0|8@1+ (1,0) [0|0] \"\" Vector__XXX\nSG_MUL_VAL_ 512 S1 S0 1-1;\n\
+          SG_MUL_VAL_ 512 S2 S1 1-1;\nSG_MUL_VAL_ 512 S3 S2 1-1;\nSG_MUL_VAL_ 512 S4 S3 1-1;\n\
+          SG_MUL_VAL_ 512 S5 S4 1-1;\nSG_MUL_VAL_ 512 S6 S5 1-1;\nSG_MUL_VAL_ 512 S7 S6 1-1;\n\
+          SG_MUL_VAL_ 512 S8 S7 1-1;\nSG_MUL_VAL_ 512 S9 S8 1-1;\n",
         "mux 512 S9 deep",
     ),
     (
@@ -57,11 +84,13 @@ const FAULTS: [(&[u8], &str); 20] = [
         "ok 1 0",
     ),
     (
-        b"VERSION \"\"\nBO_ 256 Engine: 8 ECU\n SG_ Speed : 0|16@1+ (1,0) [0|0] \"\" Vector__XXX\nBO_ 256 Again: 8 ECU\n",
+        b"VERSION \"\"\nBO_ 256 Engine: 8 ECU\n SG_ Speed : 0|16@1+ (1,0) [0|0] \"\" Vector__XXX\n\
+          BO_ 256 Again: 8 ECU\n",
         "message 256",
     ),
     (
-        b"VERSION \"\"\nBO_ 256 Engine: 8 ECU\n SG_ Speed : 0|16@1+ (1,0) [0|0] \"\" Vector__XXX\n SG_ Speed : 0|16@1+ (1,0) [0|0] \"\" Vector__XXX\n",
+        b"VERSION \"\"\nBO_ 256 Engine: 8 ECU\n SG_ Speed : 0|16@1+ (1,0) [0|0] \"\" Vector__XXX\n \
+          SG_ Speed : 0|16@1+ (1,0) [0|0] \"\" Vector__XXX\n",
         "signal 256 Speed",
     ),
     (
@@ -81,7 +110,8 @@ const FORMS: [(&[u8], &str); 22] = [
     ),
     (b"NS_ :\nBO_ 256 M: 8 E", "statement 10"),
     (
-        b"VERSION \"\"\nBO_ 256 Engine: 8 ECU\n SG_ Speed : 0|16@1+ (1,0) [0|0] \"\" Vector__XXX\nCM_ \"x\";\n SG_ S : 0|1@1+ (1,0) [0|0] \"\" X",
+        b"VERSION \"\"\nBO_ 256 Engine: 8 ECU\n SG_ Speed : 0|16@1+ (1,0) [0|0] \"\" Vector__XXX\n\
+          CM_ \"x\";\n SG_ S : 0|1@1+ (1,0) [0|0] \"\" X",
         "statement 91",
     ),
     (b"SG_ S : 0|1@1+ (1,0) [0|0] \"\" X", "statement 0"),
@@ -95,17 +125,20 @@ const FORMS: [(&[u8], &str); 22] = [
         "statement 80",
     ),
     (
-        b"VERSION \"\"\nBO_ 256 Engine: 8 ECU\n SG_ Speed : 0|16@1+ (1,0) [0|0] \"\" Vector__XXX\nVAL_ 256 Speed 1 \"a\" BO_ ;",
+        b"VERSION \"\"\nBO_ 256 Engine: 8 ECU\n SG_ Speed : 0|16@1+ (1,0) [0|0] \"\" Vector__XXX\n\
+          VAL_ 256 Speed 1 \"a\" BO_ ;",
         "statement 81",
     ),
     (
-        b"VERSION \"\"\nBO_ 256 Engine: 8 ECU\n SG_ Speed : 0|16@1+ (1,0) [0|0] \"\" Vector__XXX\nVAL_ 256 Speed 1 \"a\"",
+        b"VERSION \"\"\nBO_ 256 Engine: 8 ECU\n SG_ Speed : 0|16@1+ (1,0) [0|0] \"\" Vector__XXX\n\
+          VAL_ 256 Speed 1 \"a\"",
         "statement 81",
     ),
     (b"// a comment\nBO_", "byte 0"),
     (b"BO_ \"", "string 4"),
     (
-        b"VERSION \"\"\nBO_ 256 Engine: 8 ECU\n SG_ Speed : 0|16@1+ (1,0) [0|0] \"\" Vector__XXX\nSIG_VALTYPE_ 256 Speed : 3;",
+        b"VERSION \"\"\nBO_ 256 Engine: 8 ECU\n SG_ Speed : 0|16@1+ (1,0) [0|0] \"\" Vector__XXX\n\
+          SIG_VALTYPE_ 256 Speed : 3;",
         "statement 81",
     ),
     (
@@ -113,11 +146,13 @@ const FORMS: [(&[u8], &str); 22] = [
         "scale 34",
     ),
     (
-        b"VERSION \"\"\nBO_ 256 Engine: 8 ECU\n SG_ S : 0|8@1+ (0e99999999999,123456789012345678e-18) [0|0] \"\" Vector__XXX\n",
+        b"VERSION \"\"\nBO_ 256 Engine: 8 ECU\n \
+          SG_ S : 0|8@1+ (0e99999999999,123456789012345678e-18) [0|0] \"\" Vector__XXX\n",
         "ok 1 1",
     ),
     (
-        b"BO_ 3221225472 VECTOR__INDEPENDENT_SIG_MSG: 0 X\n SG_ S m1 : 0|80@1+ (1e99,0) [0|0] \"\" X\nBO_ 256 M: 8 E",
+        b"BO_ 3221225472 VECTOR__INDEPENDENT_SIG_MSG: 0 X\n SG_ S m1 : 0|80@1+ (1e99,0) [0|0] \"\" X\n\
+          BO_ 256 M: 8 E",
         "ok 1 0",
     ),
     (
@@ -137,11 +172,13 @@ const FORMS: [(&[u8], &str); 22] = [
         "limit 256",
     ),
     (
-        b"BO_ 256 M: 8 E\n SG_ SSSSSSSSSSSSSSSSSSSSSSSSSSSSSSSSSSSSSSSSSSSSSSSSSSSSSSSSSSSSSSSSSSSSSSSSSSSSSSSSSSSSSSSSSSSSSSSSSSSSSSSSSSSSSSSSSSSSSSSSSSSSSSSS : 0|8@1+ (1,0) [0|0] \"\" X",
+        b"BO_ 256 M: 8 E\n \
+          SG_ SSSSSSSSSSSSSSSSSSSSSSSSSSSSSSSSSSSSSSSSSSSSSSSSSSSSSSSSSSSSSSSSSSSSSSSSSSSSSSSSSSSSSSSSSSSSSSSSSSSSSSSSSSSSSSSSSSSSSSSSSSSSSSSS : 0|8@1+ (1,0) [0|0] \"\" X",
         "ok 1 1",
     ),
     (
-        b"BO_ 256 M: 8 E\n SG_ SSSSSSSSSSSSSSSSSSSSSSSSSSSSSSSSSSSSSSSSSSSSSSSSSSSSSSSSSSSSSSSSSSSSSSSSSSSSSSSSSSSSSSSSSSSSSSSSSSSSSSSSSSSSSSSSSSSSSSSSSSSSSSSSS : 0|8@1+ (1,0) [0|0] \"\" X",
+        b"BO_ 256 M: 8 E\n \
+          SG_ SSSSSSSSSSSSSSSSSSSSSSSSSSSSSSSSSSSSSSSSSSSSSSSSSSSSSSSSSSSSSSSSSSSSSSSSSSSSSSSSSSSSSSSSSSSSSSSSSSSSSSSSSSSSSSSSSSSSSSSSSSSSSSSSS : 0|8@1+ (1,0) [0|0] \"\" X",
         "limit 256 SSSSSSSSSSSSSSSSSSSSSSSSSSSSSSSSSSSSSSSSSSSSSSSSSSSSSSSSSSSSSSSSSSSSSSSSSSSSSSSSSSSSSSSSSSSSSSSSSSSSSSSSSSSSSSSSSSSSSSSSSSSSSSSSS",
     ),
 ];

@@ -27,11 +27,13 @@ const REAL: [(&[u8], &str); 13] = [
         "ok 1 0",
     ),
     (
-        b"BA_DEF_ BO_ \"Cycle\" INT 0 1000;\nBA_DEF_DEF_ \"Cycle\" 100;\nBA_ \"Cycle\" BO_ 256 100;\nBA_DEF_ \"F\" FLOAT -1.5E-3 1e3;\nBO_ 1 M: 8 A\n",
+        b"BA_DEF_ BO_ \"Cycle\" INT 0 1000;\nBA_DEF_DEF_ \"Cycle\" 100;\nBA_ \"Cycle\" BO_ 256 100;\n\
+          BA_DEF_ \"F\" FLOAT -1.5E-3 1e3;\nBO_ 1 M: 8 A\n",
         "ok 1 0",
     ),
     (
-        b"SIG_GROUP_ 256 G 1 : A B;\nBO_TX_BU_ 256 : A,B;\nEV_ E: 0 [0|1] \"\" 0 1 DUMMY_NODE_VECTOR0 Vector__XXX;\nBO_ 1 M: 8 A\n",
+        b"SIG_GROUP_ 256 G 1 : A B;\nBO_TX_BU_ 256 : A,B;\n\
+          EV_ E: 0 [0|1] \"\" 0 1 DUMMY_NODE_VECTOR0 Vector__XXX;\nBO_ 1 M: 8 A\n",
         "ok 1 0",
     ),
     (
@@ -39,11 +41,13 @@ const REAL: [(&[u8], &str); 13] = [
         "ok 1 0",
     ),
     (
-        b"BO_ 2364540158 EEC1: 8 Vector__XXX\n SG_ EngSpeed : 24|16@1+ (0.125,0) [0|8031.875] \"rpm\" Vector__XXX\n",
+        b"BO_ 2364540158 EEC1: 8 Vector__XXX\n \
+          SG_ EngSpeed : 24|16@1+ (0.125,0) [0|8031.875] \"rpm\" Vector__XXX\n",
         "ok 1 1",
     ),
     (
-        b"BO_ 1 M: 8 A\n SG_ S : 0|16@1+ (1.5E-05,-4.0e+01) [-1e3|1E3] \"\" A,B C , D\n SG_ T : 16|8@1+ (.5,1.) [0|0] \"\"\n",
+        b"BO_ 1 M: 8 A\n SG_ S : 0|16@1+ (1.5E-05,-4.0e+01) [-1e3|1E3] \"\" A,B C , D\n \
+          SG_ T : 16|8@1+ (.5,1.) [0|0] \"\"\n",
         "ok 1 2",
     ),
     (
@@ -51,7 +55,8 @@ const REAL: [(&[u8], &str); 13] = [
         "ok 1 1",
     ),
     (
-        b"VAL_ 1 Unknown 1 \"x\";\nSIG_VALTYPE_ 1 Unknown 1;\nSG_MUL_VAL_ 1 Unknown Other 1-1;\nBO_ 1 M: 8 A\n",
+        b"VAL_ 1 Unknown 1 \"x\";\nSIG_VALTYPE_ 1 Unknown 1;\nSG_MUL_VAL_ 1 Unknown Other 1-1;\n\
+          BO_ 1 M: 8 A\n",
         "ok 1 0",
     ),
 ];
