@@ -19,7 +19,7 @@ use Rattle.bench_model.specs.Limits.{most_messages}
 use Rattle.bench_model.specs.Decodable.{IsDecodable}
 use Rattle.bench_model.specs.Check.{IsValid}
 use Rattle.bench_model.specs.ValidBench.{IsValidBus}
-use Rattle.bench_model.specs.Meaning.{matching, raw_values, physical, active_value, active_values, message_meaning, bench_meaning}
+use Rattle.bench_model.specs.Meaning.{matching, raw_values, physical, message_meaning, bench_meaning}
 use Rattle.image_words.specs.declared.rows.BusRow.{BusRow}
 use Rattle.image_words.specs.declared.rows.MessageRow.{MessageRow}
 use Rattle.image_words.specs.declared.rows.CodingRow.{CodingRow}
@@ -30,7 +30,7 @@ use Rattle.image_words.specs.Image.{kind_of, HasEntry, HasCoding, HasSignal, Has
 use Rattle.image_words.specs.Knowledge.{Knowledge, SomeFits, Holds}
 use Rattle.image_words.specs.Reading.{EachHas, EachIs, LabelsAt, SignalAt, SignalsAt, MessageAt, IsBusRow, IsMessageRow, IsCodingRow, IsSignalRow, IsCodingOf, SignalOf, IsValueAt}
 use Rattle.image_words.specs.Found.{IsFoundAt, BusOf}
-use Rattle.image_words.proofs.SearchLaws.{all_at, drop_at, drop_past}
+use Rattle.image_words.proofs.SearchLaws.{all_at, drop_at}
 use Rattle.image_words.proofs.RowLaws.{row_of, scale_read}
 use Rattle.image_words.proofs.ActiveLaws.{signal_of, has_shape}
 
@@ -97,7 +97,7 @@ cons_behind : {X : Type 0} (before rest : List X) (v : Option X) → before ++ c
 cons_behind before rest None = ap (λ xs. xs ++ rest) (sym (append-nil before))
 cons_behind before rest (Some x) = sym (append_assoc before (x ∷ []) rest)
 
-values_more : (f : ℕ × Signal → Option SignalValue) (xs : List Signal) (i : ℕ) (s : Signal) (v : Option SignalValue) (before after all : List SignalValue) →
+pub values_more : (f : ℕ × Signal → Option SignalValue) (xs : List Signal) (i : ℕ) (s : Signal) (v : Option SignalValue) (before after all : List SignalValue) →
     slice_get xs i ≡ Some s → v ≡ f (i, s) → after ≡ before ++ option_to_list v →
     before ++ filter_map f (enumerate_from i (drop i xs)) ≡ all → after ++ filter_map f (enumerate_from (i + 1) (drop (i + 1) xs)) ≡ all
 values_more f xs i s v before after all at e grown so_far =
@@ -108,27 +108,6 @@ values_more f xs i s v before after all at e grown so_far =
     ∙ sym (cons_behind before rest v)
     ∙ ap (λ (w : Option SignalValue). before ++ cons_option w rest) e
     ∙ ap (λ (ys : List SignalValue). before ++ ys) (sym split)
-    ∙ so_far
-
-pub values_begin : (bytes : List ℕ) (m : Message) (values : List SignalValue) → values ≡ [] →
-    values ++ filter_map (active_value bytes m.tree.parents (raw_values bytes m.signals)) (enumerate_from 0 (drop 0 m.signals)) ≡ active_values bytes m
-unfolding active_values
-values_begin bytes m values e = rw e refl
-
-pub values_step : (at count place : ℕ) (bytes image : List ℕ) (m : Message) (v : Option SignalValue) (before after : List SignalValue) → SignalsAt at count image m →
-    place < count → IsValueAt bytes m place v → after ≡ before ++ option_to_list v →
-    before ++ filter_map (active_value bytes m.tree.parents (raw_values bytes m.signals)) (enumerate_from place (drop place m.signals)) ≡ active_values bytes m →
-    after ++ filter_map (active_value bytes m.tree.parents (raw_values bytes m.signals)) (enumerate_from (place + 1) (drop (place + 1) m.signals)) ≡ active_values bytes m
-values_step at count place bytes image m v before after has h is grown so_far =
-    let s = signal_of at count place image m has h in
-    values_more (active_value bytes m.tree.parents (raw_values bytes m.signals)) m.signals place s.0 v before after (active_values bytes m) s.1 (is s.0 s.1) grown so_far
-
-pub values_end : (bytes : List ℕ) (m : Message) (place : ℕ) (values : List SignalValue) → length m.signals ≤ place →
-    values ++ filter_map (active_value bytes m.tree.parents (raw_values bytes m.signals)) (enumerate_from place (drop place m.signals)) ≡ active_values bytes m →
-    values ≡ active_values bytes m
-values_end bytes m place values h so_far =
-    sym (append-nil values)
-    ∙ ap (λ (ys : List Signal). values ++ filter_map (active_value bytes m.tree.parents (raw_values bytes m.signals)) (enumerate_from place ys)) (sym (drop_past m.signals place h))
     ∙ so_far
 
 -- ---- messages

@@ -13,5 +13,6 @@ pub mod ActiveLaws
 pub mod NumberLaws
 pub mod ValueLaws
 pub mod DecodeLaws
+pub mod RunLaws
 pub mod WholeLaws
 pub mod ExampleLaws

@@ -6,6 +6,9 @@ pub mod Image
 pub mod Knowledge
 -- all words of a list, and where its rows stand
 pub mod Whole
+-- what a visitor of a frame's meaning is given
+pub mod Visits
+pub mod Buffers
 -- what the code reads on its way
 pub mod Reading
 pub mod Found

@@ -1,127 +1,54 @@
-//! The decoding of a frame straight from the words of an image.
+//! The meaning of a frame as a value of its own.
 
-ghost use Rattle.std.specs.Prelude.{◌≡◌, ◌<◌, ◌++◌, List, Some, slice_get, OnOk, IfOk};
-ghost use Rattle.std.specs.Option.{option_to_list};
-ghost use Rattle.bench_model.specs.declared.database.Bus.{Bus};
-ghost use Rattle.bench_model.specs.Meaning.{active_values, message_meaning, bench_meaning};
+ghost use Rattle.std.specs.Prelude.{◌≡◌, ◌<◌, [], IfOk};
+ghost use Rattle.bench_model.specs.Meaning.{bench_meaning};
 ghost use Rattle.image_words.specs.Knowledge.{SomeFits, Narrows, Holds};
-ghost use Rattle.image_words.specs.Reading.{Learned, EachHas, EachIs, SignalsAt, MessageAt, IsValueAt};
-ghost use Rattle.image_words.specs.Found.{BusOf};
 
-use crate::Words;
-use crate::activity::is_active;
-use crate::layout::{BUS_WORDS, HEADER_WORDS, MESSAGE_WORDS, SIGNAL_WORDS};
-use crate::matching::matching;
-use crate::rows::{BusRow, bus_row, message_row, signal_row};
-use crate::values::{text_of, value_of};
-use bench_model::{Ask, Plain, SignalValue, valid_is_decodable, valid_keeps_rules};
+use crate::walking::walk;
+use crate::{ValueBuffer, Visit, Words};
+use bench_model::{Ask, Plain, SignalValue, Text};
 use multiplex_tree::List;
 use std::alloc::{AllocError, Global};
 
-/// The value of the signal at a place, where it is active and present.
-fn signal_at<W: Words>(
+/// Collects the meaning that it is given.
+#[derive(Drop)]
+pub(crate) struct Collected {
     alloc: Global,
-    words: &mut W,
-    buffer: &mut Vec<u8>,
-    at: usize,
-    count: usize,
-    place: usize,
-    bytes: &[u8],
-) -> Result<Option<SignalValue>, AllocError>
-    requires some { SomeFits (W.knows words.old) }
-    requires signals { EachHas (W.knows words.old) (SignalsAt at count) }
-    requires place { place < count }
-    ensures learned { Learned W.knows W.reads words.old words.new }
-    ensures value { IfOk result (λ value. EachIs (W.knows words.new) (SignalsAt at count)
-        (λ image m. IsValueAt bytes.now m place value)) }
-{
-    let _size = words.len();
-    let row = signal_row(words, at + SIGNAL_WORDS * place);
-    if !is_active(words, at, count, place, row.level, bytes) {
-        return Ok(None);
+    name: Text,
+    signals: Vec<SignalValue>,
+}
+
+impl Collected {
+    /// Nothing yet.
+    fn new(alloc: Global) -> Result<Collected, AllocError>
+        ensures { IfOk result (λ collected. collected.signals.items ≡ []) }
+    {
+        let name = Text::of(alloc, b"")?;
+        Ok(Collected {
+            alloc,
+            name,
+            signals: Vec::new(alloc),
+        })
     }
-    let Some(raw) = row.level.shape.raw(bytes) else {
-        return Ok(None);
-    };
-    let value = value_of(alloc, words, buffer, row, raw)?;
-    Ok(Some(value))
 }
 
-/// Appends a value, where there is one.
-fn push_some(values: &mut Vec<SignalValue>, value: Option<SignalValue>) -> Result<(), AllocError>
-    ensures { OnOk result (values.new.items ≡ values.old.items ++ option_to_list value) }
-{
-    if let Some(value) = value {
-        values.push(value)?;
+impl Visit for Collected {
+    ghost use Rattle.image_words.specs.Buffers.{collects_name, collects_value};
+
+    ghost names = { collects_name };
+
+    ghost takes = { collects_value };
+
+    fn message(&mut self, name: &[u8]) -> Result<(), AllocError> {
+        self.name = Text::of(self.alloc, name)?;
+        Ok(())
     }
-    Ok(())
-}
 
-/// The values of the signals that are active and present.
-fn signals_of<W: Words>(
-    alloc: Global,
-    words: &mut W,
-    buffer: &mut Vec<u8>,
-    at: usize,
-    count: usize,
-    bytes: &[u8],
-) -> Result<Vec<SignalValue>, AllocError>
-    requires some { SomeFits (W.knows words.old) }
-    requires signals { EachHas (W.knows words.old) (SignalsAt at count) }
-    ensures learned { Learned W.knows W.reads words.old words.new }
-    ensures values { IfOk result (λ values. EachIs (W.knows words.new) (SignalsAt at count)
-        (λ image m. values.items ≡ active_values bytes.now m)) }
-{
-    let mut values = Vec::new(alloc);
-    for place in 0..count {
-        let value = signal_at(alloc, words, buffer, at, count, place, bytes)?;
-        push_some(&mut values, value)?;
+    fn signal(&mut self, value: &ValueBuffer) -> Result<(), AllocError> {
+        let own = value.copy(self.alloc)?;
+        self.signals.push(own)?;
+        Ok(())
     }
-    Ok(values)
-}
-
-/// What the bytes mean as the message whose row stands at a place.
-fn message_of<W: Words>(
-    alloc: Global,
-    words: &mut W,
-    at: usize,
-    bytes: &[u8],
-) -> Result<Plain, AllocError>
-    requires some { SomeFits (W.knows words.old) }
-    requires message { EachHas (W.knows words.old) (MessageAt at) }
-    ensures learned { Learned W.knows W.reads words.old words.new }
-    ensures plain { IfOk result (λ plain. EachIs (W.knows words.new) (MessageAt at)
-        (λ image m. plain ≡ message_meaning bytes.now m)) }
-{
-    let row = message_row(words, at);
-    let mut buffer = Vec::new(alloc);
-    let name = text_of(alloc, words, &mut buffer, row.name)?;
-    let signals = signals_of(
-        alloc,
-        words,
-        &mut buffer,
-        row.signals_at,
-        row.signals,
-        bytes,
-    )?;
-    Ok(Plain {
-        name,
-        signals: List::of(signals),
-    })
-}
-
-/// The row of the bus at a place of the bench.
-fn bus_at<W: Words>(words: &mut W, bus: u32) -> BusRow
-    requires some { SomeFits (W.knows words.old) }
-    requires bus { bus < (W.knows words.old).buses }
-    ensures learned { Learned W.knows W.reads words.old words.new }
-    ensures row { Holds (W.knows words.new)
-        (λ image bench. (b : Bus) × (slice_get bench.buses bus ≡ Some b) × BusOf result image b) }
-{
-    valid_is_decodable();
-    valid_keeps_rules();
-    let _size = words.len();
-    bus_row(words, HEADER_WORDS + BUS_WORDS * bus as usize)
 }
 
 /// What bytes mean on a bus, where a message of its database matches: the meaning under the bench of each
@@ -144,16 +71,15 @@ pub fn decode<W: Words>(
     ensures plain { IfOk result (λ plain. Holds (W.knows words.new)
         (λ image bench. plain ≡ bench_meaning bench bus ask bytes.now)) }
 {
-    let row = bus_at(words, bus);
-    let _size = words.len();
-    let Some(position) = matching(words, row, ask) else {
+    let mut value = ValueBuffer::new(alloc);
+    let mut collected = Collected::new(alloc)?;
+    let matched = walk(words, bus, ask, bytes, &mut value, &mut collected)?;
+    if !matched {
         return Ok(None);
-    };
-    let plain = message_of(
-        alloc,
-        words,
-        row.messages_at + MESSAGE_WORDS * position,
-        bytes,
-    )?;
-    Ok(Some(plain))
+    }
+    let Collected { name, signals, .. } = collected;
+    Ok(Some(Plain {
+        name,
+        signals: List::of(signals),
+    }))
 }

@@ -4,8 +4,9 @@
 //! word by word, whatever keeps it; `image_compiler` writes one. The crate stands on `bench_model`, whose types
 //! and meaning it speaks of, on `exact_scale` and on `multiplex_tree`.
 //!
-//! Main theorem: where some list fits the words known, `decode` gives, unless memory runs out, the meaning of a
-//! frame's bytes under the bench of each list that fits when it returns, and a list encodes at most one bench.
+//! Main theorem: where some list fits the words known, `walk` gives a visitor, and `decode` gives as a value of its
+//! own, unless memory runs out, the meaning of a frame's bytes under the bench of each list that fits when it returns,
+//! and a list encodes at most one bench.
 #![tactic(auto)]
 
 mod activity;
@@ -23,6 +24,8 @@ mod rows;
 mod shape;
 mod texts;
 mod values;
+mod visit;
+mod walking;
 mod words;
 
 pub use decoding::decode;
@@ -31,6 +34,9 @@ pub use laws::{
 };
 pub use numbers::{group_of, key_number_of};
 pub use raw::raw_of;
+pub use values::ValueBuffer;
+pub use visit::Visit;
+pub use walking::walk;
 pub use words::Words;
 
 #[cfg(test)]

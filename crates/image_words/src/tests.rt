@@ -81,6 +81,52 @@ fn a_frame_is_decoded_from_words(rt: HostRuntime) -> Result<(), Fail> {
     Ok(())
 }
 
+/// Writes the texts that it is given, and keeps the last raw value.
+#[derive(Drop)]
+struct Line {
+    text: Vec<u8>,
+    raw: i128,
+}
+
+impl Visit for Line {
+    ghost names = { λ old name new. Unit {0} };
+
+    ghost takes = { λ old value new. Unit {0} };
+
+    fn message(&mut self, name: &[u8]) -> Result<(), AllocError> {
+        self.text.extend_from_slice(name)
+    }
+
+    fn signal(&mut self, value: &ValueBuffer) -> Result<(), AllocError> {
+        self.raw = value.raw;
+        self.text.push(b' ')?;
+        self.text.extend_from_slice(value.name.as_slice())?;
+        self.text.push(b' ')?;
+        self.text.extend_from_slice(value.unit.as_slice())
+    }
+}
+
+#[test]
+fn a_visitor_is_given_the_name_and_each_value(rt: HostRuntime) -> Result<(), Fail> {
+    let alloc = rt.alloc();
+    let mut words = image(alloc)?;
+    let mut value = ValueBuffer::new(alloc);
+    let mut line = Line {
+        text: Vec::new(alloc),
+        raw: 0,
+    };
+    let key = Key {
+        extended: false,
+        id: 5,
+    };
+    let ask = Ask::Frame { key };
+    let matched = walk(&mut words, 0, ask, b"\x12\x34", &mut value, &mut line)?;
+    assert!(rt; matched);
+    assert_eq!(rt; line.text.as_slice(), b"b c kilometre".as_slice());
+    assert_eq!(rt; line.raw, 4660);
+    Ok(())
+}
+
 #[test]
 fn a_raw_value_is_read_from_words(rt: HostRuntime) -> Result<(), Fail> {
     let mut words = image(rt.alloc())?;

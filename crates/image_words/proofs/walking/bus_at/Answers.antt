@@ -1,7 +1,7 @@
 use Rattle.std.proofs.Common.{arith}
 use Rattle.image_words.proofs.WordLaws.{earlier}
 use Rattle.image_words.proofs.DecodeLaws.{bus_there, bus_within, bus_is, valid_at}
-use Rattle.image_words.proofs.decoding.bus_at.Goals as goal
+use Rattle.image_words.proofs.walking.bus_at.Goals as goal
 
 pub overflow_mul-bus : goal.overflow_mul-bus
 overflow_mul-bus g c = let within = bus_within _ _ c.requires.some c.requires.bus in record { fits = omega (arith, within, c.len-size.ensures) }

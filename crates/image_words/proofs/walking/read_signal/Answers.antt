@@ -1,11 +1,12 @@
 use Rattle.std.proofs.Common.{◌∙◌, ℤ, ap, arith}
 use Rattle.bench_model.specs.Meaning.{physical}
+use Rattle.image_words.specs.Buffers.{value_in}
 use Rattle.image_words.proofs.NumberLaws.{raw_kept}
 use Rattle.image_words.proofs.WordLaws.{learned_then, earlier}
 use Rattle.image_words.proofs.RowLaws.{signal_within}
 use Rattle.image_words.proofs.ActiveLaws.{signal_of}
 use Rattle.image_words.proofs.DecodeLaws.{each_signal, signal_is, value_inactive, value_absent, value_present}
-use Rattle.image_words.proofs.decoding.signal_at.Goals as goal
+use Rattle.image_words.proofs.walking.read_signal.Goals as goal
 
 pub overflow_mul-place : goal.overflow_mul-place
 overflow_mul-place g c =
@@ -50,33 +51,33 @@ returns-in_default-clause-value g c image bench f m has =
     value_absent c.args.bytes.now m c.args.place s.0 (c.is_active.ensures.active image bench f m has ∙ c.if-not-is_active.false) s.1
     (c.in_default.ensures.value s.0 own.shape)
 
-pub value_of-requires-clause-some : goal.value_of-requires-clause-some
-value_of-requires-clause-some g c =
+pub read_value-requires-clause-some : goal.read_value-requires-clause-some
+read_value-requires-clause-some g c =
     c.is_active.ensures.learned.narrows.some (c.signal_row-row.ensures.learned.narrows.some c.requires.some)
 
-pub value_of-requires-clause-signal : goal.value_of-requires-clause-signal
-value_of-requires-clause-signal g c image bench f =
+pub read_value-requires-clause-signal : goal.read_value-requires-clause-signal
+read_value-requires-clause-signal g c image bench f =
     let before = earlier _ _ _ _ image bench c.is_active.ensures.learned f in
     let m = c.requires.signals image bench (earlier _ _ _ _ image bench c.signal_row-row.ensures.learned before) in
     let s = signal_of c.args.at c.args.count c.args.place image m.0 m.1 c.requires.place in
     (s.0, signal_is image _ c.signal_row-row.result s.0 (c.signal_row-row.ensures.row image bench before) s.2)
 
-pub returns-in_err-value-clause-learned : goal.returns-in_err-value-clause-learned
-returns-in_err-value-clause-learned g c =
+pub returns-in_err-read_value-clause-learned : goal.returns-in_err-read_value-clause-learned
+returns-in_err-read_value-clause-learned g c =
     learned_then _ _ g.met.W.Words.chain _ _ _
-    (learned_then _ _ g.met.W.Words.chain _ _ _ c.signal_row-row.ensures.learned c.is_active.ensures.learned) c.value_of.ensures.learned
+    (learned_then _ _ g.met.W.Words.chain _ _ _ c.signal_row-row.ensures.learned c.is_active.ensures.learned) c.read_value.ensures.learned
 
 pub returns-clause-learned : goal.returns-clause-learned
 returns-clause-learned g c =
     learned_then _ _ g.met.W.Words.chain _ _ _
-    (learned_then _ _ g.met.W.Words.chain _ _ _ c.signal_row-row.ensures.learned c.is_active.ensures.learned) c.value_of.ensures.learned
+    (learned_then _ _ g.met.W.Words.chain _ _ _ c.signal_row-row.ensures.learned c.is_active.ensures.learned) c.read_value.ensures.learned
 
 pub returns-clause-value : goal.returns-clause-value
 returns-clause-value g c image bench f m has =
-    let middle = earlier _ _ _ _ image bench c.value_of.ensures.learned f in
+    let middle = earlier _ _ _ _ image bench c.read_value.ensures.learned f in
     let before = earlier _ _ _ _ image bench c.is_active.ensures.learned middle in
     let s = signal_of c.args.at c.args.count c.args.place image m has c.requires.place in
     let own = signal_is image _ c.signal_row-row.result s.0 (c.signal_row-row.ensures.row image bench before) s.2 in
-    value_present c.args.bytes.now m c.args.place s.0 c.in-Some.raw c.in_ok-value.value
+    value_present c.args.bytes.now m c.args.place s.0 c.in-Some.raw (value_in c.read_value.new.value)
     (c.is_active.ensures.active image bench middle m has ∙ c.if-not-is_active.false) s.1 (c.in-Some.ensures.value s.0 own.shape)
-    (c.in_ok-value.ensures.value image bench f s.0 own ∙ ap (λ (r : ℤ). physical s.0 r) (raw_kept c.in-Some.raw c.in-Some.ensures.bound))
+    (c.in_ok-read_value.ensures.value image bench f s.0 own ∙ ap (λ (r : ℤ). physical s.0 r) (raw_kept c.in-Some.raw c.in-Some.ensures.bound))
