@@ -1,0 +1,2 @@
+-- the generated frames and their log
+pub mod GeneratedLog
