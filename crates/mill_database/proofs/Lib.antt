@@ -6,3 +6,4 @@ pub mod StatementLaws
 pub mod ScaleLaws
 pub mod ValidLaws
 pub mod GatherLaws
+pub mod EmptyLaws

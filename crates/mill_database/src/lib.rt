@@ -1,12 +1,14 @@
-//! The database that is made for `mill`, the tool's own workload: the text of 64 messages with the same four signals each.
+//! The database that is made for `mill`, the tool's own workload: 64 messages with the same four signals each.
 //!
-//! It stands on `itoa`, and its lemmas on the crates whose definitions say what a whole and valid file is: `sig_text`,
-//! `token_forms`, `dbc_grammar` and `bench_model`.
+//! It stands on the crates whose definitions say what a whole and valid file is, `dbc_grammar` and `bench_model` above all, and
+//! on their laws.
 //!
-//! Main theorem: `generated_text` gives the generated file. The lemmas beside it lead from the definitions to the database
-//! that the file is, which is written out (`proofs/GatherLaws`, `is_database`).
+//! Main theorem: the generated file is a list of whole statements, and its database is valid and the one that is written
+//! out here.
 #![tactic(auto)]
 
+mod laws;
 mod text;
 
+pub use laws::the_generated_text_is_whole;
 pub use text::generated_text;
