@@ -1,5 +1,5 @@
 -- Buses judged so far and one more are judged, and the first file that is refused stands behind buses that are there.
-use Rattle.std.proofs.Common.{◌≡◌, ℕ, zero, suc, ◌+◌, ◌<◌, ◌≤◌, List, [], ◌∷◌, ◌++◌, length, get_or, take, Err, refl, sym, ap, subst, ◌∙◌, arith, add-one}
+use Rattle.std.proofs.Common.{◌≡◌, ℕ, ◌+◌, ◌<◌, ◌≤◌, List, [], ◌∷◌, ◌++◌, length, get_or, take, Err, sym, ap, subst, ◌∙◌, arith, add-one}
 use Rattle.std.specs.Prelude.{All, zip}
 use Rattle.std.specs.List.{AllZip}
 use Rattle.std.proofs.lemmas.List.{take_all}
@@ -7,53 +7,14 @@ use Rattle.std.proofs.lemmas.List.Elements.{All-push}
 use Rattle.std.proofs.Math.Seq.{take-suc}
 use Rattle.bench_model.specs.declared.database.Bus.{Bus}
 use Rattle.bench_model.specs.Check.{IsValid}
-use Rattle.decisions.specs.ListDecisions.{FirstFails}
 use Rattle.bench_file.specs.declared.plan.PlannedBus.{PlannedBus}
 use Rattle.bench_inputs.specs.declared.database_file.DatabaseFile.{DatabaseFile}
 use Rattle.bench_loader.specs.declared.fault.DatabaseFault.{DatabaseFault}
 use Rattle.bench_loader.specs.Judging.{IsBusOf, IsRefusedOnBus, IsFirstRefused}
 use Rattle.bench_loader.specs.declared.fault.JudgeRefused.{JudgeRefused}
 use Rattle.bench_loader.specs.declared.fault.JudgeRefused.TheVariants as refused
+use Rattle.bench_loader.proofs.ZipLaws.{AllZip-snoc, length-zip, pair_at, first_fails}
 use Rattle.bench_loader.specs.JudgeView.{IsJudged, IsJudgedBench, JudgesBus, JudgesBench, refused_at}
-
-AllZip-snoc : {A B : Type 0} (R : A → B → Type 0) (xs : List A) (ys : List B) (x : A) (y : B) → AllZip R xs ys → R x y
-    → AllZip R (xs ++ x ∷ []) (ys ++ y ∷ [])
-AllZip-snoc R [] [] x y h r = (r, tt)
-AllZip-snoc R [] (w ∷ ys) x y h r = absurd h
-AllZip-snoc R (z ∷ xs) [] x y h r = absurd h
-AllZip-snoc R (z ∷ xs) (w ∷ ys) x y h r = (h.0, AllZip-snoc R xs ys x y h.1 r)
-
-zip_at : (buses : List PlannedBus) (files : List DatabaseFile) (i : ℕ) (b : PlannedBus) (f : DatabaseFile)
-    → i < length buses → i < length files
-    → (let d : PlannedBus × DatabaseFile = (b, f) in let here : PlannedBus × DatabaseFile = (get_or buses i b, get_or files i f) in get_or (zip buses files) i d ≡ here)
-zip_at [] files i b f within inside = absurd (omega arith)
-zip_at (x ∷ xs) [] i b f within inside = absurd (omega arith)
-zip_at (x ∷ xs) (y ∷ ys) zero b f within inside = refl
-zip_at (x ∷ xs) (y ∷ ys) (suc i) b f within inside = zip_at xs ys i b f (omega arith) (omega arith)
-
-length-zip : (buses : List PlannedBus) (files : List DatabaseFile) → length buses ≡ length files
-    → length (zip buses files) ≡ length buses
-length-zip [] files same = refl
-length-zip (x ∷ xs) [] same = absurd (omega arith)
-length-zip (x ∷ xs) (y ∷ ys) same = omega (arith, length-zip xs ys (omega arith))
-
-pair_is : (b c : PlannedBus) (f g : DatabaseFile) → b ≡ c → f ≡ g
-    → (let p : PlannedBus × DatabaseFile = (b, f) in let q : PlannedBus × DatabaseFile = (c, g) in p ≡ q)
-pair_is b c f g e h = cc
-
--- what stands at this place of the pairs
-pair_at : (buses : List PlannedBus) (files : List DatabaseFile) (i : ℕ) (bus : PlannedBus) (file : DatabaseFile)
-    → length buses ≡ length files → i < length buses → bus ≡ get_or buses i bus
-    → file ≡ get_or files i file → (let here : PlannedBus × DatabaseFile = (bus, file) in get_or (zip buses files) i here ≡ here)
-pair_at buses files i bus file same within is is' =
-    zip_at buses files i bus file within (omega arith) ∙ sym (pair_is bus (get_or buses i bus) file (get_or files i file) is is')
-
-first_fails : {A B C : Type 0} (Makes : A → B → Type 0) (Fails : A → C → Type 0) (xs : List A) (ys : List B) (i : ℕ) (d : A) (why : C) → i < length xs → AllZip Makes (take i xs) ys → Fails (get_or xs i d) why
-    → FirstFails Makes Fails xs i why
-first_fails Makes Fails [] ys i d why within made fails = absurd (omega arith)
-first_fails Makes Fails (x ∷ xs) ys zero d why within made fails = fails
-first_fails Makes Fails (x ∷ xs) [] (suc i) d why within made fails = absurd made
-first_fails Makes Fails (x ∷ xs) (y ∷ ys) (suc i) d why within made fails = ((y, made.0), first_fails Makes Fails xs ys i d why (omega arith) made.1 fails)
 
 -- the buses of the first so many pairs, each with a valid database
 pub record Judged (planned : List (PlannedBus × DatabaseFile)) (i : ℕ) (buses : List Bus) : Type 0 where

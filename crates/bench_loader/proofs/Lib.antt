@@ -3,3 +3,16 @@ pub mod CheckLaws
 pub mod FileLaws
 pub mod JudgeLaws
 pub mod VerdictLaws
+pub mod ZipLaws
+pub mod LineLaws
+pub mod TargetLaws
+pub mod AskLaws
+pub mod StageLaws
+pub mod NextLaws
+pub mod PutLaws
+pub mod CommandLaws
+pub mod DueLaws
+pub mod SomeDueLaws
+pub mod RunLaws
+pub mod ReplyLaws
+pub mod TestLaws

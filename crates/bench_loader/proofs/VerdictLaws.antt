@@ -1,12 +1,14 @@
 -- The files of a bench have one verdict.
-use Rattle.std.proofs.Common.{◌≡◌, ◌⊎◌, ℕ, List, Option, Some, None, refl, ap, subst, ◌∙◌, inl, inr}
+use Rattle.std.proofs.Common.{◌≡◌, ◌⊎◌, ℕ, ◌<◌, ◌≤◌, List, Option, Some, None, refl, sym, ap, subst, ◌∙◌, inl, inr, arith}
 use Rattle.std.specs.Prelude.{zip}
 use Rattle.std.specs.List.{AllZip}
+use Rattle.std.proofs.lemmas.Bool.{cases_lt}
 use Rattle.port_io.specs.Library.{named}
 use Rattle.decisions.specs.Decisions.{Decides}
 use Rattle.decisions.specs.ListDecisions.{FirstFailsAt, decides_list}
 use Rattle.bench_model.specs.declared.database.Bench.{Bench}
 use Rattle.bench_model.specs.declared.database.Bus.{Bus}
+use Rattle.image_compiler.specs.Size.{image_size}
 use Rattle.bench_file.specs.declared.plan.Plan.{Plan}
 use Rattle.bench_file.specs.PlanOf.{IsPlan, IsFault}
 use Rattle.bench_inputs.specs.declared.database_file.DatabaseFile.{DatabaseFile}
@@ -14,7 +16,7 @@ use Rattle.bench_inputs.specs.Asking.{Files}
 use Rattle.bench_inputs.specs.BenchFiles.{HasBytes, HasPlan, HasFaultyPlan, IsDatabaseOfBus, LacksDatabase, log_names}
 use Rattle.bench_loader.specs.declared.fault.DatabaseFault.{DatabaseFault}
 use Rattle.bench_loader.specs.Judging.{IsBusOf, IsRefusedOnBus, AreBuses, IsFirstRefused}
-use Rattle.bench_loader.specs.Verdict.{Run, Verdict, missing, faulty, refused, decodes, HasInputs, LacksSomeDatabase, IsMissing, LacksSomeLog, IsRefusedBench, IsRun, IsVerdict}
+use Rattle.bench_loader.specs.Verdict.{Run, Verdict, missing, faulty, refused, large, decodes, HasInputs, LacksSomeDatabase, IsMissing, FitsRegion, LacksSomeLog, IsRefusedBench, IsLargeBench, IsRun, IsVerdict}
 
 there_or_missing : (files : Files) (name : List ℕ) → ((bytes : List ℕ) × HasBytes files name bytes) ⊎ IsMissing files name tt
 there_or_missing files name = go (named files name) refl where
@@ -36,6 +38,10 @@ one_file files = record {
   apart = λ name a c h k. not_there files name a h k;
 }
 
+-- what fits into a room is not larger than it
+above : (size need words room : ℕ) → size ≡ need → words ≡ room → size ≤ words → room < need → ⊥
+above size need words room s w fits larger = absurd (omega (arith, s, w, fits, larger))
+
 module _ (P : Decides IsPlan IsFault) (D : (files : Files) → Decides (AllZip (IsDatabaseOfBus files)) (FirstFailsAt (IsDatabaseOfBus files) (LacksDatabase files)))
     (J : Decides IsBusOf IsRefusedOnBus) (files : Files) (name : List ℕ) where
   judged : Decides (AllZip IsBusOf) (FirstFailsAt IsBusOf IsRefusedOnBus)
@@ -44,18 +50,28 @@ module _ (P : Decides IsPlan IsFault) (D : (files : Files) → Decides (AllZip (
   logs : Decides (AllZip (HasBytes files)) (FirstFailsAt (HasBytes files) (IsMissing files))
   logs = decides_list (HasBytes files) (IsMissing files) (one_file files)
 
+  with_bench : (plan : Plan) (dbs : List DatabaseFile) → HasInputs files name plan dbs → (bench : Bench)
+      → AreBuses (zip plan.buses dbs) bench.buses → FitsRegion plan bench → (v : Verdict) × IsVerdict files name v
+  with_bench plan dbs inputs bench are fits =
+      elim (logs.some (log_names plan.buses)) [
+        | inl bytes ↦
+            let run : Run = record { plan = plan; bench = bench; logs = bytes.0 } in
+            let is_run : IsRun files name run = record { databases = dbs; inputs = inputs; are_buses = are; fits = fits; logs_are = bytes.1 } in
+            (decodes run, is_run)
+        | inr first ↦
+            let lacks : LacksSomeLog files name = record { plan = plan; databases = dbs; inputs = inputs; bench = bench; are_buses = are; fits = fits; first = first.0; lacks = first.1 } in
+            (missing, inr (inr lacks))
+      ]
+
   with_buses : (plan : Plan) (dbs : List DatabaseFile) → HasInputs files name plan dbs → (buses : List Bus)
       → AreBuses (zip plan.buses dbs) buses → (v : Verdict) × IsVerdict files name v
   with_buses plan dbs inputs buses are =
       let bench : Bench = record { buses = buses } in
-      elim (logs.some (log_names plan.buses)) [
-        | inl bytes ↦
-            let run : Run = record { plan = plan; bench = bench; logs = bytes.0 } in
-            let is_run : IsRun files name run = record { databases = dbs; inputs = inputs; are_buses = are; logs_are = bytes.1 } in
-            (decodes run, is_run)
-        | inr first ↦
-            let lacks : LacksSomeLog files name = record { plan = plan; databases = dbs; inputs = inputs; bench = bench; are_buses = are; first = first.0; lacks = first.1 } in
-            (missing, inr (inr lacks))
+      elim (cases_lt plan.words (image_size bench)) [
+        | inl larger ↦
+            let is : IsLargeBench files name (image_size bench) plan.words = record { plan = plan; databases = dbs; inputs = inputs; bench = bench; are_buses = are; needs = refl; has = refl; larger = larger } in
+            (large (image_size bench) plan.words, is)
+        | inr fits ↦ with_bench plan dbs inputs bench are fits
       ]
 
   with_inputs : (plan : Plan) (dbs : List DatabaseFile) → HasInputs files name plan dbs → (v : Verdict) × IsVerdict files name v
@@ -129,6 +145,30 @@ module _ (P : Decides IsPlan IsFault) (D : (files : Files) → Decides (AllZip (
   buses_or_refused p a buses bus fault h are r =
       judged.apart (zip r.plan.buses r.databases) buses (bus, fault) (moved p r.plan a r.databases h r.inputs buses are) r.is_first
 
+  same_buses : (p q : Plan) (a b : List DatabaseFile) → HasInputs files name p a → HasInputs files name q b → (xs ys : List Bus)
+      → AreBuses (zip p.buses a) xs → AreBuses (zip q.buses b) ys → xs ≡ ys
+  same_buses p q a b h k xs ys are are' = judged.one (zip q.buses b) xs ys (moved p q a b h k xs are) are'
+
+  same_size : (p q : Plan) (a b : List DatabaseFile) → HasInputs files name p a → HasInputs files name q b → (x y : Bench)
+      → AreBuses (zip p.buses a) x.buses → AreBuses (zip q.buses b) y.buses → image_size x ≡ image_size y
+  same_size p q a b h k x y are are' =
+      ap (λ bs. let bench : Bench = record { buses = bs } in image_size bench) (same_buses p q a b h k x.buses y.buses are are')
+
+  same_words : (p q : Plan) → HasPlan files name p → HasPlan files name q → p.words ≡ q.words
+  same_words p q h k = ap (λ (r : Plan). r.words) (same_plan p q h k)
+
+  fits_or_large : (p : Plan) (a : List DatabaseFile) (bench : Bench) (need room : ℕ) → HasInputs files name p a
+      → AreBuses (zip p.buses a) bench.buses → FitsRegion p bench → IsLargeBench files name need room → ⊥
+  fits_or_large p a bench need room h are fits l =
+      above (image_size bench) need p.words room
+      (same_size p l.plan a l.databases h l.inputs bench l.bench are l.are_buses ∙ sym l.needs)
+      (same_words p l.plan h.has_plan l.inputs.has_plan ∙ sym l.has) fits l.larger
+
+  same_large : (m n r s : ℕ) → IsLargeBench files name m r → IsLargeBench files name n s → large m r ≡ large n s
+  same_large m n r s h k =
+      ap (λ x. large x r) (h.needs ∙ same_size h.plan k.plan h.databases k.databases h.inputs k.inputs h.bench k.bench h.are_buses k.are_buses ∙ sym k.needs)
+      ∙ ap (λ x. large n x) (h.has ∙ same_words h.plan k.plan h.inputs.has_plan k.inputs.has_plan ∙ sym k.has)
+
   run_or_missing_log : (run : Run) → IsRun files name run → LacksSomeLog files name → ⊥
   run_or_missing_log run h l =
       let Q : Plan → Type 0 = λ r. AllZip (HasBytes files) (log_names r.buses) run.logs in
@@ -143,6 +183,11 @@ module _ (P : Decides IsPlan IsFault) (D : (files : Files) → Decides (AllZip (
   missing_or_refused bus fault (inl gone) r = not_there files name r.inputs.has_plan.bytes r.inputs.has_plan.is_there gone
   missing_or_refused bus fault (inr (inl l)) r = databases_or_none r.plan r.databases r.inputs l
   missing_or_refused bus fault (inr (inr l)) r = buses_or_refused l.plan l.databases l.bench.buses bus fault l.inputs l.are_buses r
+
+  missing_or_large : (need room : ℕ) → IsVerdict files name missing → IsLargeBench files name need room → ⊥
+  missing_or_large need room (inl gone) r = not_there files name r.inputs.has_plan.bytes r.inputs.has_plan.is_there gone
+  missing_or_large need room (inr (inl l)) r = databases_or_none r.plan r.databases r.inputs l
+  missing_or_large need room (inr (inr l)) r = fits_or_large l.plan l.databases l.bench need room l.inputs l.are_buses l.fits r
 
   missing_or_run : (run : Run) → IsVerdict files name missing → IsRun files name run → ⊥
   missing_or_run run (inl gone) r = not_there files name r.inputs.has_plan.bytes r.inputs.has_plan.is_there gone
@@ -175,16 +220,25 @@ module _ (P : Decides IsPlan IsFault) (D : (files : Files) → Decides (AllZip (
   one_verdict missing missing h k = refl
   one_verdict missing (faulty n) h k = absurd (missing_or_fault n h k)
   one_verdict missing (refused bus fault) h k = absurd (missing_or_refused bus fault h k)
+  one_verdict missing (large need room) h k = absurd (missing_or_large need room h k)
   one_verdict missing (decodes run) h k = absurd (missing_or_run run h k)
   one_verdict (faulty n) missing h k = absurd (missing_or_fault n k h)
   one_verdict (faulty m) (faulty n) h k = ap faulty (same_fault m n h k)
   one_verdict (faulty n) (refused bus fault) h k = absurd (plan_or_fault k.plan n k.inputs.has_plan h)
+  one_verdict (faulty n) (large need room) h k = absurd (plan_or_fault k.plan n k.inputs.has_plan h)
   one_verdict (faulty n) (decodes run) h k = absurd (plan_or_fault run.plan n k.inputs.has_plan h)
   one_verdict (refused bus fault) missing h k = absurd (missing_or_refused bus fault k h)
   one_verdict (refused bus fault) (faulty n) h k = absurd (plan_or_fault h.plan n h.inputs.has_plan k)
   one_verdict (refused m f) (refused n g) h k = same_refusal m n f g h k
+  one_verdict (refused bus fault) (large need room) h k = absurd (buses_or_refused k.plan k.databases k.bench.buses bus fault k.inputs k.are_buses h)
   one_verdict (refused bus fault) (decodes run) h k = absurd (buses_or_refused run.plan k.databases run.bench.buses bus fault k.inputs k.are_buses h)
+  one_verdict (large need room) missing h k = absurd (missing_or_large need room k h)
+  one_verdict (large need room) (faulty n) h k = absurd (plan_or_fault h.plan n h.inputs.has_plan k)
+  one_verdict (large need room) (refused bus fault) h k = absurd (buses_or_refused h.plan h.databases h.bench.buses bus fault h.inputs h.are_buses k)
+  one_verdict (large m r) (large n s) h k = same_large m n r s h k
+  one_verdict (large need room) (decodes run) h k = absurd (fits_or_large run.plan k.databases run.bench need room k.inputs k.are_buses k.fits h)
   one_verdict (decodes run) missing h k = absurd (missing_or_run run k h)
   one_verdict (decodes run) (faulty n) h k = absurd (plan_or_fault run.plan n h.inputs.has_plan k)
   one_verdict (decodes run) (refused bus fault) h k = absurd (buses_or_refused run.plan h.databases run.bench.buses bus fault h.inputs h.are_buses k)
+  one_verdict (decodes run) (large need room) h k = absurd (fits_or_large run.plan h.databases run.bench need room h.inputs h.are_buses h.fits k)
   one_verdict (decodes a) (decodes b) h k = ap decodes (same_run a b h k)

@@ -107,7 +107,7 @@ fn judge_bus(alloc: Global, bus: &PlannedBus, file: &DatabaseFile) -> Result<Bus
 }
 
 /// A refusal of the bus at this place.
-fn refused_at(bus: u32, refused: JudgeRefused) -> BenchRefused
+pub(crate) fn refused_at(bus: u32, refused: JudgeRefused) -> BenchRefused
     ensures { result ≡ refused_at bus refused }
 {
     match refused {

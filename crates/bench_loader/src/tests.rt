@@ -6,6 +6,7 @@ use port_io::MemFile;
 use std::alloc::{AllocError, Global};
 
 mod checking;
+mod commands;
 mod fault_text;
 mod judging;
 

@@ -146,7 +146,7 @@ fn append_ldf(out: &mut Vec<u8>, fault: &LdfFault) -> Result<(), AllocError>
     }
 }
 
-fn append_fault(out: &mut Vec<u8>, fault: &DatabaseFault) -> Result<(), AllocError>
+pub(crate) fn append_fault(out: &mut Vec<u8>, fault: &DatabaseFault) -> Result<(), AllocError>
     ensures ok { OnOk result (out.new.items ≡ out.old.items ++ text_of_words (fault_words fault.now)) }
     ensures grows { Extends out.old.items out.new.items }
 {

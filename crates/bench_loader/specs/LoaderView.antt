@@ -1,0 +1,36 @@
+-- A loader, as its callers see it.
+use Rattle.std.specs.Prelude.{◌≡◌, ℕ, ◌+◌, List, [], ◌∷◌, length, slice_index_or}
+use Rattle.bench_model.specs.ValidBench.{IsValidBench}
+use Rattle.image_words.specs.Image.{Encodes}
+use Rattle.region_store.specs.declared.store.Store.{Store}
+use Rattle.region_store.specs.declared.loader.LoaderSeat.{LoaderSeat}
+use Rattle.region_store.specs.Images.{IsLike}
+use Rattle.region_store.specs.Ends.{shape_of, first_of}
+use Rattle.region_store.specs.LoaderEnd.{IsLoaderOf, view_of_loader, images_of}
+use Rattle.bench_loader.specs.declared.loader.Loader.{Loader}
+use Rattle.bench_loader.specs.Due.{Limits}
+use Rattle.bench_loader.specs.Commands.{LoaderState, images_in, version_in}
+
+-- the bench of a loader, and what its seat knows
+abbrev pub state_of : Loader → LoaderState
+state_of l = record { bench = l.bench; view = view_of_loader l.seat }
+
+abbrev pub limits_of : Store → Limits
+limits_of s = record { room = (shape_of s).room; last = s.last }
+
+-- the seat of a store that was made with this first image, of which no other is published
+pub record IsFirst (s : Store) (image : List ℕ) (seat : LoaderSeat) : Type 0 where
+  pub own : IsLoaderOf s seat
+  pub first : first_of s ≡ image
+  pub images : images_of seat ≡ image ∷ []
+  pub version : (view_of_loader seat).loader.version ≡ 0
+
+-- The loader works on this store. Its bench is valid and is what the published image encodes, which is the last of one image for
+-- each version; the buses have the names and kinds of those of the first image.
+pub record IsLoaderOn (s : Store) (l : Loader) : Type 0 where
+  pub own : IsLoaderOf s l.seat
+  pub room : l.room ≡ (shape_of s).room
+  pub count : length (images_in (state_of l)) ≡ version_in (state_of l) + 1
+  pub valid : IsValidBench l.bench
+  pub encodes : Encodes (slice_index_or (images_in (state_of l)) (version_in (state_of l)) []) l.bench
+  pub like : IsLike (first_of s) (slice_index_or (images_in (state_of l)) (version_in (state_of l)) [])
