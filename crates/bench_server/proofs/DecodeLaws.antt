@@ -7,6 +7,7 @@ use Rattle.bench_model.specs.declared.database.Bench.{Bench}
 use Rattle.bench_file.specs.declared.plan.Plan.{Plan}
 use Rattle.bench_file.specs.declared.plan.PlannedBus.{PlannedBus}
 use Rattle.bench_inputs.specs.BenchFiles.{HasPlan, log_names}
+use Rattle.bench_loader.specs.Verdict.{FitsRegion}
 use Rattle.bench_inputs.specs.Reading.{OpensAll, StopsOpening}
 use Rattle.subscriber_text.specs.Wants.{WantList}
 use Rattle.bench_text.specs.declared.refused.BusesRefused.{BusesRefused}
@@ -19,12 +20,13 @@ use Rattle.bench_server.specs.Loading.{MakeBench}
 use Rattle.bench_server.proofs.OptionLaws.{if_some, of_some}
 use Rattle.bench_server.proofs.EndLaws.{IsLoaded, open_end, printed_end}
 
-module _ (name : List ℕ) (plan : Plan) (bench : Bench) (s : Seen) (buses : List PlannedBus) (same : plan.buses ≡ buses)
+module _ (name : List ℕ) (plan : Plan) (bench : Bench) (s : Seen) (buses : List PlannedBus) (same : plan.buses ≡ buses) (fits : FitsRegion plan bench)
     (has : IfSome s.library.files (λ files. HasPlan files name plan)) (made : IfSome s.library.files (λ files. MakeBench files buses bench)) where
   loaded : IfSome s.library.files (λ files. IsLoaded files name plan bench)
   loaded = if_some s.library.files (λ files. IsLoaded files name plan bench) (λ files e. record {
     has_plan = of_some s.library.files (λ files. HasPlan files name plan) files e has;
     made = subst (λ (bs : List PlannedBus). MakeBench files bs bench) (sym same) (of_some s.library.files (λ files. MakeBench files buses bench) files e made);
+    fits = fits;
   })
 
   -- a log could not be opened

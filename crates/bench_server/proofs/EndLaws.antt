@@ -12,7 +12,7 @@ use Rattle.bench_file.specs.declared.plan.Plan.{Plan}
 use Rattle.bench_inputs.specs.Asking.{Files, strays_over}
 use Rattle.bench_inputs.specs.BenchFiles.{HasPlan, HasBytes, log_names}
 use Rattle.bench_inputs.specs.Reading.{IsFresh, OpensAll, StopsOpening}
-use Rattle.bench_loader.specs.Verdict.{Run, missing, IsVerdict, IsMissing, HasInputs}
+use Rattle.bench_loader.specs.Verdict.{Run, missing, IsVerdict, IsMissing, HasInputs, FitsRegion}
 use Rattle.bench_text.specs.declared.refused.BusesRefused.{BusesRefused}
 use Rattle.bench_text.specs.declared.refused.BusesRefused.TheVariants as refused
 use Rattle.bench_text.specs.LogsRead.{HaveLeft}
@@ -27,10 +27,11 @@ use Rattle.bench_server.proofs.LogLaws.{reads_of, ReadOf, opened_named, all_unre
 use Rattle.bench_server.proofs.StopLaws.{stops_failed, stops_long, read_in_order, stops_text}
 use Rattle.bench_server.proofs.StrayLaws.{none_astray, logs_there, then_there, first_missing, AreThere}
 
--- the bench file of this name makes this plan, whose buses make this bench
+-- the bench file of this name makes this plan, whose buses make this bench, and its image fits
 pub record IsLoaded (files : Files) (name : List ℕ) (plan : Plan) (bench : Bench) : Type 0 where
   pub has_plan : HasPlan files name plan
   pub made : MakeBench files plan.buses bench
+  pub fits : FitsRegion plan bench
 
 inputs_of : (files : Files) (name : List ℕ) (plan : Plan) (bench : Bench) (l : IsLoaded files name plan bench) → HasInputs files name plan l.made.databases
 inputs_of files name plan bench l = record { has_plan = l.has_plan; databases_are = l.made.databases_are }
@@ -42,6 +43,7 @@ makes_bench files name plan bench l = record {
   inputs = inputs_of files name plan bench l;
   bench = bench;
   are_buses = l.made.are_buses;
+  fits = l.fits;
 }
 
 -- a log that is not there is missing, and one that is there is no stray
@@ -55,6 +57,7 @@ stray_log files name plan bench l opened last behind parted there None e before 
       inputs = inputs_of files name plan bench l;
       bench = bench;
       are_buses = l.made.are_buses;
+      fits = l.fits;
       first = (length opened, tt);
       lacks = subst (λ (names : List (List ℕ)). FirstFailsAt (HasBytes files) (IsMissing files) names (length opened, tt)) (sym parted) (first_missing files opened last behind there e);
     })))
@@ -104,7 +107,7 @@ module _ (name : List ℕ) (plan : Plan) (bench : Bench) (s : Seen) (logs : List
       → Holds (record { plan = plan; bench = bench; logs = r.bytes }) → Decodes files name s.logs Holds
   decodes_run files l r Holds h = record {
     run = record { plan = plan; bench = bench; logs = r.bytes };
-    is_run = record { databases = l.made.databases; inputs = inputs_of files name plan bench l; are_buses = l.made.are_buses; logs_are = r.are_there };
+    is_run = record { databases = l.made.databases; inputs = inputs_of files name plan bench l; are_buses = l.made.are_buses; fits = l.fits; logs_are = r.are_there };
     logs = r.are_logs;
     holds = h;
   }

@@ -5,6 +5,7 @@ mod StrayLaws
 mod EndLaws
 mod DecodeLaws
 mod PhaseLaws
+mod ValidLaws
 mod LoadLaws
 mod CountLaws
 mod CheckLaws

@@ -6,6 +6,7 @@ use Rattle.std.proofs.lemmas.Option.{IfSome_then}
 use Rattle.std.proofs.lemmas.Slice.Zip.{length-zip}
 use Rattle.decisions.specs.Decisions.{Decides}
 use Rattle.decisions.specs.ListDecisions.{FirstFailsAt}
+use Rattle.bench_model.specs.declared.database.Bus.{Bus}
 use Rattle.bench_model.specs.declared.database.Bench.{Bench}
 use Rattle.bench_file.specs.declared.plan.PlannedBus.{PlannedBus}
 use Rattle.bench_inputs.specs.declared.database_file.DatabaseFile.{DatabaseFile}
@@ -16,13 +17,14 @@ use Rattle.bench_inputs.specs.BenchFiles.{IsDatabaseOfBus, LacksDatabase, databa
 use Rattle.bench_inputs.specs.Reading.{Caused, StopsReading, ReadsAll}
 use Rattle.bench_loader.specs.declared.fault.BenchRefused.{BenchRefused}
 use Rattle.bench_loader.specs.declared.fault.BenchRefused.TheVariants as bench
-use Rattle.bench_loader.specs.Judging.{IsBusOf}
+use Rattle.bench_loader.specs.Judging.{IsBusOf, AreBuses}
 use Rattle.bench_loader.specs.JudgeView.{JudgesBench}
 use Rattle.bench_server.specs.declared.refused.DecodeRefused.{DecodeRefused}
 use Rattle.bench_server.specs.EndView.{of_file, of_bench}
-use Rattle.bench_server.specs.Loading.{LacksFile, AnswersLoad, LoadsDatabases}
+use Rattle.bench_server.specs.Loading.{ArePlannedBuses, LacksFile, AnswersLoad, LoadsDatabases}
 use Rattle.bench_server.proofs.OptionLaws.{if_some, of_some}
 use Rattle.bench_server.proofs.LogLaws.{zip_length}
+use Rattle.bench_server.proofs.ValidLaws.{valid_bench}
 use Rattle.bench_server.proofs.StrayLaws.{AreThere, none_astray, first_there, databases_there}
 
 -- an error that `?` passes on
@@ -64,22 +66,25 @@ abbrev pub loaded : Result Bench BenchRefused → Result Bench DecodeRefused
 loaded (Ok made) = Ok made
 loaded (Err why) = Err (of_bench why)
 
-judged_answer : (before now : LibraryState) (buses : List PlannedBus) (read : List DatabaseFile) (r : ReadsAll before buses read now) (result : Result Bench BenchRefused)
+judged_count : (buses : List PlannedBus) (read : List DatabaseFile) (made : List Bus) → length read ≡ length buses → AreBuses (zip buses read) made → length made ≡ length buses
+judged_count buses read made n are = zip_length IsBusOf (zip buses read) made are ∙ length-zip buses read ∙ same_length (length buses) (length read) n
+
+judged_answer : (before now : LibraryState) (buses : List PlannedBus) (planned : ArePlannedBuses buses) (read : List DatabaseFile) (r : ReadsAll before buses read now) (result : Result Bench BenchRefused)
     → JudgesBench (zip buses read) result → AnswersLoad before buses now (loaded result)
-judged_answer before now buses read r (Ok made) j = record {
-  count = zip_length IsBusOf (zip buses read) made.buses j.are_buses ∙ length-zip buses read ∙ same_length (length buses) (length read) r.count;
-  valid = j.valid;
+judged_answer before now buses planned read r (Ok made) j = record {
+  count = judged_count buses read made.buses r.count j.are_buses;
+  valid = valid_bench buses read made planned (judged_count buses read made.buses r.count j.are_buses) j.are_buses j.valid;
   made = IfSome_then before.files r.databases (λ files all. record { databases = read; databases_are = all; are_buses = j.are_buses });
 }
-judged_answer before now buses read r (Err (bench.Refused bus fault)) j =
+judged_answer before now buses planned read r (Err (bench.Refused bus fault)) j =
     IfSome_then before.files r.databases (λ files all. record { databases = read; databases_are = all; is_first = j })
-judged_answer before now buses read r (Err bench.Memory) j = tt
+judged_answer before now buses planned read r (Err bench.Memory) j = tt
 
 -- they were read, and judged
-pub load_judged : (before now : LibraryState) (buses : List PlannedBus) (read : List DatabaseFile) → ReadsAll before buses read now → (result : Result Bench BenchRefused)
+pub load_judged : (before now : LibraryState) (buses : List PlannedBus) → ArePlannedBuses buses → (read : List DatabaseFile) → ReadsAll before buses read now → (result : Result Bench BenchRefused)
     → JudgesBench (zip buses read) result → LoadsDatabases before buses (loaded result) now
-load_judged before now buses read r result j = record {
-  answer = judged_answer before now buses read r result j;
+load_judged before now buses planned read r result j = record {
+  answer = judged_answer before now buses planned read r result j;
   files = r.asks.files;
   opens = r.asks.opens;
   reads = r.asks.reads;

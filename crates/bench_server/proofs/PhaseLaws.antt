@@ -1,5 +1,5 @@
 -- How a run ends whose library was asked before: what ended a later phase ends the run.
-use Rattle.std.proofs.Common.{◌≡◌, ◌⊎◌, ℕ, ◌≤◌, List, [], ◌∷◌, Option, Some, None, refl, sym, ap, subst, ◌∙◌, inl, inr, arith}
+use Rattle.std.proofs.Common.{◌≡◌, ◌⊎◌, ℕ, ◌<◌, ◌≤◌, List, [], ◌∷◌, Option, Some, None, refl, sym, ap, subst, ◌∙◌, inl, inr, arith}
 use Rattle.std.specs.Prelude.{Result, Ok, Err}
 use Rattle.std.specs.Option.{IfSome}
 use Rattle.std.specs.List.{All}
@@ -21,7 +21,7 @@ use Rattle.bench_server.specs.declared.refused.DecodeRefused.{DecodeRefused}
 use Rattle.bench_server.specs.declared.refused.DecodeRefused.TheVariants as refused
 use Rattle.bench_server.specs.EndView.{refused_status}
 use Rattle.bench_server.specs.Outcomes.{Seen, WroteNothing, IsHeard, IsUnread, AreHeardInOrder, Caused, Shows, AreFirstLogs, EndsDecode}
-use Rattle.bench_server.specs.Loading.{RefuseBench, LacksFile, AnswersLoad, LoadsDatabases}
+use Rattle.bench_server.specs.Loading.{MakeBench, RefuseBench, LacksFile, IsBenchOf, AnswersLoad, LoadsDatabases, AnswersImage}
 use Rattle.bench_server.proofs.OptionLaws.{if_some, of_some}
 use Rattle.bench_server.proofs.StrayLaws.{there}
 
@@ -45,6 +45,7 @@ caused_since before mid name s status.Usage e w c = c
 caused_since before mid name s (status.BenchFile line) e w c = c
 caused_since before mid name s (status.Refused None fault) e w c = c
 caused_since before mid name s (status.Refused (Some bus) fault) e w c = c
+caused_since before mid name s (status.TooLarge need room) e w c = c
 caused_since before mid name s status.OpenFault e w c =
     (rose_since before.open_faults s.library.open_faults s.library_now.open_faults (subst (λ (m : LibraryState). before.open_faults ≤ m.open_faults) (sym e) w.opens) c.0, c.1, c.2)
 caused_since before mid name s (status.ReadFault None) e w c =
@@ -60,6 +61,7 @@ shows_since files before name s status.Usage h = h
 shows_since files before name s (status.BenchFile line) h = h
 shows_since files before name s (status.Refused None fault) h = h
 shows_since files before name s (status.Refused (Some bus) fault) h = h
+shows_since files before name s (status.TooLarge need room) h = h
 shows_since files before name s status.OpenFault h = h
 shows_since files before name s (status.ReadFault None) h = h
 shows_since files before name s (status.ReadFault (Some bus)) h = h
@@ -101,6 +103,7 @@ none_heard logs none = inl (subst (λ (ls : List SourceState). All IsHeard ls) (
 -- the databases were not loaded
 load_caused : (buses_of : Plan) (s : Seen) (why : DecodeRefused) → AnswersLoad s.library buses_of.buses s.library_now (Err why) → WroteNothing s → s.logs ≡ [] → Caused s (refused_status why)
 load_caused plan s (refused.Database bus fault) a nothing none = (nothing, none)
+load_caused plan s (refused.Large need room) a nothing none = absurd a
 load_caused plan s refused.Open a nothing none = (a, nothing, subst (λ (ls : List SourceState). All IsUnread ls) (sym none) (All-nil IsUnread))
 load_caused plan s refused.Read a nothing none = (a, nothing, none)
 load_caused plan s (refused.Buses why) a nothing none = absurd a
@@ -111,6 +114,7 @@ load_shows : (files : Files) (name : List ℕ) (plan : Plan) (s : Seen) (why : D
 load_shows files name plan s (refused.Database bus fault) e has a nothing none =
     let r = of_some s.library.files (λ files. RefuseBench files plan.buses bus fault) files e a in
     record { plan = plan; databases = r.databases; inputs = record { has_plan = has; databases_are = r.databases_are }; is_first = r.is_first }
+load_shows files name plan s (refused.Large need room) e has a nothing none = absurd a
 load_shows files name plan s refused.Open e has a nothing none = inl none
 load_shows files name plan s refused.Read e has a nothing none = tt
 load_shows files name plan s (refused.Buses why) e has a nothing none = absurd a
@@ -165,6 +169,64 @@ plan_asked name before mid result r = record {
 pub plan_read : (name : List ℕ) (before mid : LibraryState) (plan : Plan) → ReadsPlan before name (Ok plan) mid → IfSome mid.files (λ files. HasPlan files name plan)
 plan_read name before mid plan r = if_some mid.files (λ files. HasPlan files name plan) (λ files e.
     record { bytes = r.answer.bytes; is_there = of_some before.files (λ files. HasBytes files name r.answer.bytes) files (sym r.asks.files ∙ e) r.answer.told; is_plan = r.answer.is_plan })
+
+-- the image was not made
+image_caused : (s : Seen) (room : ℕ) (bench : Bench) (why : DecodeRefused) → AnswersImage room bench (Err why) → WroteNothing s → s.logs ≡ [] → Caused s (refused_status why)
+image_caused s room bench (refused.Large need has) a nothing none = (nothing, none)
+image_caused s room bench refused.Memory a nothing none = none_heard s.logs none
+image_caused s room bench (refused.Database bus fault) a nothing none = absurd a
+image_caused s room bench refused.Open a nothing none = absurd a
+image_caused s room bench refused.Read a nothing none = absurd a
+image_caused s room bench (refused.Buses why) a nothing none = absurd a
+
+image_shows : (files : Files) (name : List ℕ) (plan : Plan) (s : Seen) (bench : Bench) (why : DecodeRefused) → HasPlan files name plan → MakeBench files plan.buses bench
+    → AnswersImage plan.words bench (Err why) → WroteNothing s → s.logs ≡ [] → Shows files name s (refused_status why)
+image_shows files name plan s bench (refused.Large need has) there made a nothing none = record {
+  plan = plan;
+  databases = made.databases;
+  inputs = record { has_plan = there; databases_are = made.databases_are };
+  bench = bench;
+  are_buses = made.are_buses;
+  needs = a.0;
+  has = a.1;
+  larger = subst (λ (room : ℕ). room < need) (sym a.1) a.2;
+}
+image_shows files name plan s bench refused.Memory there made a nothing none = inl (none, nothing)
+image_shows files name plan s bench (refused.Database bus fault) there made a nothing none = absurd a
+image_shows files name plan s bench refused.Open there made a nothing none = absurd a
+image_shows files name plan s bench refused.Read there made a nothing none = absurd a
+image_shows files name plan s bench (refused.Buses why) there made a nothing none = absurd a
+
+image_end : (name : List ℕ) (plan : Plan) (s : Seen) (bench : Bench) (why : DecodeRefused) → IfSome s.library.files (λ files. HasPlan files name plan)
+    → IfSome s.library.files (λ files. MakeBench files plan.buses bench) → AnswersImage plan.words bench (Err why) → WroteNothing s → s.logs ≡ []
+    → s.library_now ≡ s.library → EndsDecode name s (refused_status why)
+image_end name plan s bench why has made a nothing none same = record {
+  caused = image_caused s plan.words bench why a nothing none;
+  shows = if_some s.library.files (λ files. Shows files name s (refused_status why)) (λ files e.
+      image_shows files name plan s bench why (of_some s.library.files (λ files. HasPlan files name plan) files e has)
+      (of_some s.library.files (λ files. MakeBench files plan.buses bench) files e made) a nothing none);
+  logs = if_some s.library.files (λ files. (s.logs ≡ []) ⊎ AreFirstLogs files name s.logs) (λ files e. inl none);
+  strays = if_some s.library.files (λ files. (s.library_now.strays ≡ s.library.strays) ⊎ IsVerdict files name missing) (λ files e.
+      inl (ap (λ (l : LibraryState). l.strays) same));
+}
+
+-- a bench that was loaded, seen by a library that was asked
+pub bench_since : (before mid : LibraryState) (buses : List PlannedBus) (bench image : Bench) → mid.files ≡ before.files → image ≡ bench
+    → IsBenchOf before buses bench → IsBenchOf mid buses image
+bench_since before mid buses bench image files same b =
+    subst (λ (i : Bench). IsBenchOf mid buses i) (sym same)
+    (record { count = b.count; valid = b.valid; made = subst (λ (o : Option Files). IfSome o (λ fs. MakeBench fs buses bench)) (sym files) b.made })
+
+-- the databases were loaded, but the image was not made
+pub image_after : (name : List ℕ) (plan : Plan) (before : LibraryState) (buses : List PlannedBus) (bench : Bench) (s : Seen) (why : DecodeRefused) → buses ≡ plan.buses
+    → LoadsDatabases before buses (Ok bench) s.library → IfSome before.files (λ files. HasPlan files name plan) → AnswersImage plan.words bench (Err why)
+    → WroteNothing s → s.logs ≡ [] → s.library_now ≡ s.library → EndsDecode name (record s { library = before }) (refused_status why)
+image_after name plan before buses bench s why e l has a nothing none same =
+    let loads : LoadsDatabases before plan.buses (Ok bench) s.library = subst (λ (bs : List PlannedBus). LoadsDatabases before bs (Ok bench) s.library) e l in
+    let known : IfSome s.library.files (λ files. HasPlan files name plan) = subst (λ (o : Option Files). IfSome o (λ files. HasPlan files name plan)) (sym l.files) has in
+    let made = (bench_since before s.library plan.buses bench bench l.files refl loads.answer).made in
+    ends_since before s.library name s (refused_status why) refl (load_asked name plan before s.library (Ok bench) has loads)
+    (image_end name plan s bench why known made a nothing none same)
 
 -- the databases were loaded, and then the logs decoded
 pub decode_after : (name : List ℕ) (plan : Plan) (before : LibraryState) (buses : List PlannedBus) (bench : Bench) (s : Seen) (end : Status) → buses ≡ plan.buses

@@ -14,7 +14,7 @@ use Rattle.bench_inputs.specs.BenchFiles.{HasBytes, HasPlan, log_names}
 use Rattle.bench_loader.specs.declared.fault.DatabaseFault.{DatabaseFault}
 use Rattle.bench_model.specs.declared.database.Database.{Database}
 use Rattle.bench_loader.specs.Checking.{CheckVerdict, has_fault, has_database, IsCheckVerdict}
-use Rattle.bench_loader.specs.Verdict.{Run, Verdict, missing, faulty, refused, decodes, IsMissing, IsVerdict}
+use Rattle.bench_loader.specs.Verdict.{Run, Verdict, missing, faulty, refused, large, decodes, IsMissing, IsVerdict}
 use Rattle.bench_server.specs.declared.status.Status.{Status}
 use Rattle.bench_server.specs.declared.status.Status.TheVariants as status
 use Rattle.bench_server.specs.Outcomes.{Seen, WroteNothing, Decodes, MakesBench, Caused, Shows, EndsDecode}
@@ -76,7 +76,7 @@ bench_made files name m =
     elim (logs_found files (log_names m.plan.buses)) [
       | inl logs ↦ (
         decodes (record { plan = m.plan; bench = m.bench; logs = logs.0 }),
-        record { databases = m.databases; inputs = m.inputs; are_buses = m.are_buses; logs_are = logs.1 },
+        record { databases = m.databases; inputs = m.inputs; are_buses = m.are_buses; fits = m.fits; logs_are = logs.1 },
         tt,
       )
       | inr lost ↦ (
@@ -87,6 +87,7 @@ bench_made files name m =
           inputs = m.inputs;
           bench = m.bench;
           are_buses = m.are_buses;
+          fits = m.fits;
           first = (lost.0, tt);
           lacks = lost.1;
         })),
@@ -105,6 +106,7 @@ module _ (files : Files) (name : List ℕ) (s : Seen) (one : (v w : Verdict) →
   agrees (status.BenchFile line) h v i = one v (faulty line) i h
   agrees (status.Refused None fault) h v i = h
   agrees (status.Refused (Some bus) fault) h v i = one v (refused bus fault) i h
+  agrees (status.TooLarge need room) h v i = one v (large need room) i h
   agrees status.OpenFault h v i =
       elim h [
         | inl none ↦ inl none
@@ -127,6 +129,7 @@ module _ (files : Files) (name : List ℕ) (s : Seen) (one : (v w : CheckVerdict
   check_agrees (status.BenchFile line) h v i = h
   check_agrees (status.Refused None fault) h v i = one v (has_fault fault) i h
   check_agrees (status.Refused (Some bus) fault) h v i = h
+  check_agrees (status.TooLarge need room) h v i = h
   check_agrees status.OpenFault h v i = tt
   check_agrees (status.ReadFault None) h v i = tt
   check_agrees (status.ReadFault (Some bus)) h v i = h

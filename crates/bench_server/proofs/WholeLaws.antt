@@ -1,5 +1,5 @@
 -- A run of files that decide it, in which nothing failed, is whole, unless memory ran out.
-use Rattle.std.proofs.Common.{◌≡◌, ℕ, ◌+◌, ◌<◌, ◌≤◌, List, [], ◌∷◌, ◌++◌, length, Option, Some, None, refl, sym, ap, subst, ◌∙◌, arith, inl, inr}
+use Rattle.std.proofs.Common.{◌≡◌, ℕ, ◌+◌, ◌<◌, ◌≤◌, List, [], ◌∷◌, ◌++◌, length, Some, None, refl, sym, ap, subst, ◌∙◌, arith, inl, inr}
 use Rattle.std.specs.List.{All, AllZip}
 use Rattle.std.proofs.lemmas.List.{length-append}
 use Rattle.std.proofs.lemmas.List.Elements.{All-head, All-tail}
@@ -8,7 +8,7 @@ use Rattle.candump_log.specs.LinesState.{log_limit}
 use Rattle.bench_model.specs.declared.database.Database.{Database}
 use Rattle.bench_inputs.specs.Asking.{Files}
 use Rattle.bench_loader.specs.Checking.{CheckVerdict, has_fault, has_database, IsCheckVerdict, HoldsNamed}
-use Rattle.bench_loader.specs.Verdict.{Run, Verdict, faulty, refused, decodes, IsVerdict, IsRun}
+use Rattle.bench_loader.specs.Verdict.{Run, Verdict, faulty, refused, large, decodes, IsVerdict, IsRun}
 use Rattle.bench_server.specs.declared.status.Status.{Status}
 use Rattle.bench_server.specs.declared.status.Status.TheVariants as status
 use Rattle.bench_server.specs.Outcomes.{Seen, HasFailed, IsTooLong, StopsAt, IsLogOf, WroteTo, Caused, Decodes, Shows, EndsDecode}
@@ -67,6 +67,7 @@ module _ (files : Files) (name : List ℕ) (s : Seen) (run : Run) (is_run : IsRu
   whole_by (status.BenchFile line) c h = absurd (let e : faulty line ≡ decodes run = one (faulty line) (decodes run) h is_run in cc)
   whole_by (status.Refused None fault) c h = absurd c
   whole_by (status.Refused (Some bus) fault) c h = absurd (let e : refused bus fault ≡ decodes run = one (refused bus fault) (decodes run) h is_run in cc)
+  whole_by (status.TooLarge need room) c h = absurd (let e : large need room ≡ decodes run = one (large need room) (decodes run) h is_run in cc)
   whole_by status.OpenFault c h = absurd (n.opens c.0)
   whole_by (status.ReadFault None) c h = absurd (n.reads c.0)
   whole_by (status.ReadFault (Some bus)) c h = absurd (none_failed s bus n c)
@@ -88,6 +89,7 @@ module _ (files : Files) (name : List ℕ) (s : Seen) (d : Database) (holds : Ho
   whole_check_by (status.BenchFile line) c h = absurd c
   whole_check_by (status.Refused None fault) c h = absurd (let e : has_fault fault ≡ has_database d = one (has_fault fault) (has_database d) h holds in cc)
   whole_check_by (status.Refused (Some bus) fault) c h = absurd c
+  whole_check_by (status.TooLarge need room) c h = absurd c
   whole_check_by status.OpenFault c h = absurd (n.opens c.0)
   whole_check_by (status.ReadFault None) c h = absurd (n.reads c.0)
   whole_check_by (status.ReadFault (Some bus)) c h = absurd c

@@ -39,6 +39,7 @@ printed_status (Err why) = buses_status why
 
 abbrev pub refused_status : DecodeRefused → Status
 refused_status (refused.Database bus fault) = status.Refused (Some bus) fault
+refused_status (refused.Large need room) = status.TooLarge need room
 refused_status refused.Open = status.OpenFault
 refused_status refused.Read = status.ReadFault None
 refused_status (refused.Buses why) = buses_status why

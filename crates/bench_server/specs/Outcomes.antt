@@ -13,7 +13,7 @@ use Rattle.bench_inputs.specs.declared.database_file.DatabaseFile.{DatabaseFile}
 use Rattle.bench_inputs.specs.Asking.{Files, LibraryState}
 use Rattle.bench_inputs.specs.BenchFiles.{HasBytes, HasPlan, HasFaultyPlan, log_names}
 use Rattle.bench_loader.specs.Judging.{AreBuses}
-use Rattle.bench_loader.specs.Verdict.{Run, missing, IsVerdict, HasInputs, IsRefusedBench, IsRun}
+use Rattle.bench_loader.specs.Verdict.{Run, missing, IsVerdict, HasInputs, FitsRegion, IsRefusedBench, IsLargeBench, IsRun}
 use Rattle.bench_server.specs.declared.status.Status.{Status}
 use Rattle.bench_server.specs.declared.status.Status.TheVariants as status
 use Rattle.bench_server.specs.ToolText.{text_of, text_up_to, tool_text}
@@ -86,6 +86,7 @@ Caused s status.Usage = ⊥
 Caused s (status.BenchFile line) = WroteNothing s × (s.logs ≡ [])
 Caused s (status.Refused None fault) = ⊥
 Caused s (status.Refused (Some bus) fault) = WroteNothing s × (s.logs ≡ [])
+Caused s (status.TooLarge need room) = WroteNothing s × (s.logs ≡ [])
 Caused s status.OpenFault =
     Rose s.library.open_faults s.library_now.open_faults × WroteNothing s × All IsUnread s.logs
 Caused s (status.ReadFault None) =
@@ -110,13 +111,14 @@ pub record Decodes (files : Files) (name : List ℕ) (logs_now : List SourceStat
   pub logs : AllZip IsLogOf run.logs logs_now
   pub holds : Holds run
 
--- the bench file and all databases are there, and they make a bench
+-- the bench file and all databases are there, and they make a bench whose image fits
 pub record MakesBench (files : Files) (name : List ℕ) : Type 0 where
   pub plan : Plan
   pub databases : List DatabaseFile
   pub inputs : HasInputs files name plan databases
   pub bench : Bench
   pub are_buses : AreBuses (zip plan.buses databases) bench.buses
+  pub fits : FitsRegion plan bench
 
 -- the texts of the buses before this place were written, and then that of this one as far as its log was taken
 abbrev pub WroteTo : Seen → Run → ℕ → SourceState → Type 0
@@ -134,6 +136,7 @@ Shows files name s status.Usage = ⊥
 Shows files name s (status.BenchFile line) = HasFaultyPlan files name line
 Shows files name s (status.Refused None fault) = ⊥
 Shows files name s (status.Refused (Some bus) fault) = IsRefusedBench files name bus fault
+Shows files name s (status.TooLarge need room) = IsLargeBench files name need room
 Shows files name s status.OpenFault = (s.logs ≡ []) ⊎ MakesBench files name
 Shows files name s (status.ReadFault None) = Unit {0}
 Shows files name s (status.ReadFault (Some bus)) = Decodes files name s.logs (λ run. StopsAt s.logs bus (WroteTo s run bus))

@@ -12,4 +12,5 @@ code_of status.OpenFault = 5
 code_of (status.ReadFault bus) = 6
 code_of status.WriteFault = 7
 code_of (status.TooLong bus) = 9
+code_of (status.TooLarge need room) = 10
 code_of status.Memory = 11

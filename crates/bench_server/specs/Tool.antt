@@ -8,7 +8,7 @@ use Rattle.bench_file.specs.declared.plan.Plan.{Plan}
 use Rattle.bench_file.specs.declared.plan.PlannedBus.{PlannedBus}
 use Rattle.bench_inputs.specs.Asking.{Files}
 use Rattle.bench_inputs.specs.BenchFiles.{HasPlan}
-use Rattle.bench_loader.specs.Verdict.{Verdict, missing, faulty, refused, decodes, IsVerdict, Run}
+use Rattle.bench_loader.specs.Verdict.{Verdict, missing, faulty, refused, large, decodes, IsVerdict, Run}
 use Rattle.bench_server.specs.declared.status.Status.{Status}
 use Rattle.bench_server.specs.declared.status.Status.TheVariants as status
 use Rattle.bench_model.specs.declared.database.Database.{Database}
@@ -37,13 +37,15 @@ abbrev pub Decided : Verdict → (Run → Type 0) → Type 0
 Decided missing Holds = ⊥
 Decided (faulty line) Holds = ⊥
 Decided (refused bus fault) Holds = ⊥
+Decided (large need room) Holds = ⊥
 Decided (decodes run) Holds = Holds run
 
--- the files decide that the bench file is no fault and no database is refused, so that logs may be opened
+-- the files decide that the bench file is no fault, no database is refused and the bench fits, so that logs may be opened
 abbrev pub MayOpenLogs : Verdict → Type 0
 MayOpenLogs missing = Unit {0}
 MayOpenLogs (faulty line) = ⊥
 MayOpenLogs (refused bus fault) = ⊥
+MayOpenLogs (large need room) = ⊥
 MayOpenLogs (decodes run) = Unit {0}
 
 -- what each status says of the verdict that the files decide
@@ -53,6 +55,7 @@ Agrees v s status.Usage = ⊥
 Agrees v s (status.BenchFile line) = v ≡ faulty line
 Agrees v s (status.Refused None fault) = ⊥
 Agrees v s (status.Refused (Some bus) fault) = v ≡ refused bus fault
+Agrees v s (status.TooLarge need room) = v ≡ large need room
 Agrees v s status.OpenFault = (s.logs ≡ []) ⊎ MayOpenLogs v
 Agrees v s (status.ReadFault None) = Unit {0}
 Agrees v s (status.ReadFault (Some bus)) = Decided v (λ run. StopsAt s.logs bus (WroteTo s run bus))
@@ -73,6 +76,7 @@ AgreesCheck v s status.Usage = ⊥
 AgreesCheck v s (status.BenchFile line) = ⊥
 AgreesCheck v s (status.Refused None fault) = v ≡ has_fault fault
 AgreesCheck v s (status.Refused (Some bus) fault) = ⊥
+AgreesCheck v s (status.TooLarge need room) = ⊥
 AgreesCheck v s status.OpenFault = Unit {0}
 AgreesCheck v s (status.ReadFault None) = Unit {0}
 AgreesCheck v s (status.ReadFault (Some bus)) = ⊥
@@ -107,6 +111,7 @@ NamesBuses files bench names (status.ReadFault None) = Unit {0}
 NamesBuses files bench names status.Ok = Unit {0}
 NamesBuses files bench names status.Usage = Unit {0}
 NamesBuses files bench names (status.BenchFile line) = Unit {0}
+NamesBuses files bench names (status.TooLarge need room) = Unit {0}
 NamesBuses files bench names status.OpenFault = Unit {0}
 NamesBuses files bench names status.WriteFault = Unit {0}
 NamesBuses files bench names status.Memory = Unit {0}

@@ -1,16 +1,17 @@
 //! `decode`: the buses of a plan, from their files to the output.
 
-ghost use Rattle.std.specs.Prelude.{◌≡◌, ◌≤◌, ℕ, List, [], length, map, vec_len, IfOk, IfSome};
-ghost use Rattle.bench_model.specs.ValidBench.{most_buses};
+ghost use Rattle.std.specs.Prelude.{◌≡◌, ℕ, List, [], map, vec_len, IfOk, IfSome};
+ghost use Rattle.bench_model.specs.ValidBench.{IsValidBench};
 ghost use Rattle.bench_file.specs.declared.plan.Plan.{Plan as AnyPlan};
 ghost use Rattle.bench_inputs.specs.Asking.{library_told};
 ghost use Rattle.bench_inputs.specs.BenchFiles.{HasPlan};
 ghost use Rattle.bench_inputs.specs.Reading.{log_told};
+ghost use Rattle.bench_loader.specs.Verdict.{FitsRegion};
 ghost use Rattle.bus_text.specs.Fronts.{sink_told};
 ghost use Rattle.bench_server.specs.ToolText.{bus_names, all_wanted};
 ghost use Rattle.bench_server.specs.Outcomes.{EndsDecode};
 ghost use Rattle.bench_server.specs.EndView.{decode_status};
-ghost use Rattle.bench_server.specs.Loading.{seen, Keeps, LoadsDatabases, IsBenchOf};
+ghost use Rattle.bench_server.specs.Loading.{seen, Keeps, ArePlannedBuses, LoadsDatabases, IsBenchOf, AnswersImage};
 
 use crate::refused::DecodeRefused;
 use bench_file::{Plan, PlannedBus};
@@ -18,7 +19,8 @@ use bench_inputs::{one_reading_of_databases, open_logs, read_databases};
 use bench_loader::judge_bench;
 use bench_model::{Bench, Text};
 use bench_text::print_buses;
-use bus_text::TextBuffer;
+use bus_text::{BenchImage, TextBuffer};
+use image_compiler::CompileRefused;
 use port_io::{Library, Sink};
 use std::alloc::{AllocError, Global};
 use subscriber_text::Wants;
@@ -59,7 +61,7 @@ fn load_databases<B: Library>(
     library: &mut B,
     buses: &[PlannedBus],
 ) -> Result<Bench, DecodeRefused>
-    requires few { length buses.now ≤ most_buses }
+    requires planned { ArePlannedBuses buses.now }
     ensures { LoadsDatabases
         (library_told (B.files library.old) (B.open_faults library.old) (B.more_faults library.old) (B.strays library.old))
         buses.now result
@@ -70,22 +72,36 @@ fn load_databases<B: Library>(
     Ok(judge_bench(alloc, buses, &files)?)
 }
 
-/// Opens the logs of these buses and prints the text of each.
+/// The bench with its image, where that fits into so many words.
+fn image_of(alloc: Global, bench: Bench, words: u32) -> Result<BenchImage, DecodeRefused>
+    requires valid { IsValidBench bench }
+    ensures { AnswersImage words bench result }
+{
+    match BenchImage::compile(alloc, bench, words as usize) {
+        Ok(image) => Ok(image),
+        Err(CompileRefused::TooLarge { need }) => Err(DecodeRefused::Large {
+            need,
+            room: u64::from(words),
+        }),
+        Err(CompileRefused::Memory) => Err(DecodeRefused::Memory),
+    }
+}
+
+/// Opens the logs of these buses and prints the text of each, decoded over the image.
 fn decode_logs<B: Library, K: Sink>(
     alloc: Global,
     buses: &[PlannedBus],
-    bench: &Bench,
+    image: &mut BenchImage,
     library: &mut B,
     out: &mut K,
     logs: &mut Vec<B::Log>,
 ) -> Result<(), DecodeRefused>
-    requires few { length buses.now ≤ most_buses }
     requires none { logs.old.items ≡ [] }
     requires empty { vec_len logs.old ≡ 0 }
     requires bench { IsBenchOf
         (library_told (B.files library.old) (B.open_faults library.old) (B.more_faults library.old) (B.strays library.old))
-        buses.now bench.now }
-    ensures ends { (name : List ℕ) (plan : AnyPlan) → plan.buses ≡ buses.now
+        buses.now image.old }
+    ensures ends { (name : List ℕ) (plan : AnyPlan) → plan.buses ≡ buses.now → FitsRegion plan image.old
         → IfSome (B.files library.old) (λ files. HasPlan files name plan)
         → EndsDecode name (seen
         (library_told (B.files library.old) (B.open_faults library.old) (B.more_faults library.old) (B.strays library.old))
@@ -98,10 +114,10 @@ fn decode_logs<B: Library, K: Sink>(
         (library_told (B.files library.new) (B.open_faults library.new) (B.more_faults library.new) (B.strays library.new))
         (sink_told (K.written out.old) (K.write_faults out.old)) (sink_told (K.written out.new) (K.write_faults out.new)) []) }
 {
-    let Printing { wants, mut buffer } = printing_of(alloc, bench)?;
+    let Printing { wants, mut buffer } = printing_of(alloc, image.bench())?;
     logs.reserve(buses.len())?;
     open_logs(library, buses, logs)?;
-    print_buses(alloc, bench, &wants, logs, &mut buffer, out)?;
+    print_buses(alloc, image, &wants, logs, &mut buffer, out)?;
     Ok(())
 }
 
@@ -113,7 +129,7 @@ pub(crate) fn decode<B: Library, K: Sink>(
     out: &mut K,
     logs: &mut Vec<B::Log>,
 ) -> Result<(), DecodeRefused>
-    requires few { length plan.now.buses ≤ most_buses }
+    requires planned { ArePlannedBuses plan.now.buses }
     requires none { logs.old.items ≡ [] }
     requires empty { vec_len logs.old ≡ 0 }
     ensures ends { (name : List ℕ) → IfSome (B.files library.old) (λ files. HasPlan files name plan.now)
@@ -130,5 +146,6 @@ pub(crate) fn decode<B: Library, K: Sink>(
 {
     let buses = plan.buses.items();
     let bench = load_databases(alloc, library, buses)?;
-    decode_logs(alloc, buses, &bench, library, out, logs)
+    let mut image = image_of(alloc, bench, plan.words)?;
+    decode_logs(alloc, buses, &mut image, library, out, logs)
 }

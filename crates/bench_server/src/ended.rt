@@ -40,6 +40,7 @@ pub(crate) fn status_of(ended: Ended) -> Status
             fault,
         },
         Ended::Check(CheckRefused::Fault { fault }) => Status::Refused { bus: None, fault },
+        Ended::Decode(Err(DecodeRefused::Large { need, room })) => Status::TooLarge { need, room },
         Ended::Plan(BenchRefused::Open)
         | Ended::Decode(Err(DecodeRefused::Open))
         | Ended::Check(CheckRefused::Open) => Status::OpenFault,

@@ -12,6 +12,9 @@ pub(crate) enum DecodeRefused {
     /// The database of this bus is the first that is refused.
     #[error("bus {bus}: {fault}")]
     Database { bus: u32, fault: DatabaseFault },
+    /// The image of the bench takes more words than a region has.
+    #[error("the bench needs {need} words of {room}")]
+    Large { need: u64, room: u64 },
     #[error("a database or a log could not be opened")]
     Open,
     #[error("a database could not be read")]

@@ -70,6 +70,18 @@ fn append_pieces<E: Sink>(err: &mut E, pieces: &[&[u8]])
     }
 }
 
+/// Appends the line of a bench that is too large.
+fn append_large<E: Sink>(err: &mut E, need: u64, room: u64)
+    ensures { WritesFront (sink_told (E.written err.old) (E.write_faults err.old))
+        (fault_line [] (Status.TooLarge need room)) (sink_told (E.written err.new) (E.write_faults err.new)) }
+{
+    let mut needed = Buffer::new();
+    let mut there = Buffer::new();
+    let need = needed.format(need).as_bytes();
+    let room = there.format(room).as_bytes();
+    append_pieces(err, &[b"large ", need, b" ", room, b"\n"]);
+}
+
 /// Appends a line that takes no memory: that of any status but a refused database.
 fn append_line<E: Sink>(err: &mut E, buses: &[PlannedBus], status: &Status)
     requires plain { HasPlainLine status.now }
@@ -90,6 +102,7 @@ fn append_line<E: Sink>(err: &mut E, buses: &[PlannedBus], status: &Status)
         }
         Status::WriteFault => append_pieces(err, &[b"write\n"]),
         Status::TooLong { bus } => append_pieces(err, &[b"long ", name_of(buses, *bus), b"\n"]),
+        Status::TooLarge { need, room } => append_large(err, *need, *room),
         Status::Memory => append_pieces(err, &[b"memory\n"]),
     }
 }

@@ -33,6 +33,11 @@ pub enum Status {
     TooLong {
         bus: u32,
     },
+    /// The bench needs more words than a region has.
+    TooLarge {
+        need: u64,
+        room: u64,
+    },
     /// Out of memory.
     Memory,
 }
@@ -51,6 +56,7 @@ impl Status {
             Status::ReadFault { .. } => 6,
             Status::WriteFault => 7,
             Status::TooLong { .. } => 9,
+            Status::TooLarge { .. } => 10,
             Status::Memory => 11,
         }
     }

@@ -1,14 +1,13 @@
 //! What no clause says: that calls succeed with ample memory, and that the buses of a worked bench have their texts, read
 //! and written in pieces of any size, and as far as reads and writes succeed.
 ghost use Rattle.std.specs.Prelude.{◌≡◌, ◌≤◌, false, length, All, IfOk, vec_len};
-ghost use Rattle.bench_model.specs.Check.{IsValid};
 
 mod cases;
 mod databases;
 
 use crate::*;
 use bench_model::*;
-use bus_text::TextBuffer;
+use bus_text::{BenchImage, TextBuffer};
 use cases::*;
 use databases::bus_of;
 use multiplex_tree::List;
@@ -43,17 +42,21 @@ struct Outcome {
     logs: Vec<MemSource>,
 }
 
-/// A bench of the buses of three cases.
-fn bench_of(alloc: Global, first: &Case, second: &Case, third: &Case) -> Result<Bench, Fail>
-    ensures buses { IfOk result (λ bench. length bench.buses ≡ 3) }
-    ensures valid { IfOk result (λ bench. All (λ b. IsValid b.database) bench.buses) }
+/// How many words an image may take.
+const ROOM: usize = 1_000;
+
+/// The image of a bench of the buses of three cases.
+fn image_of(alloc: Global, first: &Case, second: &Case, third: &Case) -> Result<BenchImage, Fail>
+    ensures buses { IfOk result (λ image. length image.buses ≡ 3) }
 {
     let one = bus_of(alloc, first.bus, first.kind, &first.message)?;
     let two = bus_of(alloc, second.bus, second.kind, &second.message)?;
     let three = bus_of(alloc, third.bus, third.kind, &third.message)?;
-    Ok(Bench {
-        buses: List::of(vec![in alloc; one, two, three]?),
-    })
+    if first.bus == second.bus || first.bus == third.bus || second.bus == third.bus {
+        return Err("two buses of one name")?;
+    }
+    let buses = List::of(vec![in alloc; one, two, three]?);
+    Ok(BenchImage::compile(alloc, Bench { buses }, ROOM)?)
 }
 
 /// A log in memory.
@@ -97,7 +100,7 @@ fn print(
     requires read { 1 ≤ pieces.read }
     requires write { 1 ≤ pieces.write }
 {
-    let bench = bench_of(alloc, first, second, third)?;
+    let mut image = image_of(alloc, first, second, third)?;
     let one = Text::of(alloc, first.bus)?;
     let two = Text::of(alloc, second.bus)?;
     let names = vec![in alloc; one, two, Text::of(alloc, third.bus)?]?;
@@ -109,7 +112,7 @@ fn print(
         Vec::from_slice(alloc, pieces.failing_writes)?,
     );
     let mut buffer = TextBuffer::new(alloc)?;
-    let end = print_buses(alloc, &bench, &wants, &mut logs, &mut buffer, &mut sink);
+    let end = print_buses(alloc, &mut image, &wants, &mut logs, &mut buffer, &mut sink);
     Ok(Outcome { end, sink, logs })
 }
 

@@ -5,5 +5,6 @@ pub mod Buffering
 pub mod Printing
 -- how the code comes to it, line by line
 pub mod LineView
+pub mod ImageView
 pub mod Refusals
 pub mod Fronts

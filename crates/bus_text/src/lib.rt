@@ -11,12 +11,15 @@
 
 mod buffer;
 mod bus;
+mod image;
 mod laws;
 mod printing;
+mod records;
 mod refused;
 
 pub use buffer::TextBuffer;
 pub use bus::BusPlace;
+pub use image::BenchImage;
 pub use laws::{the_text_goes_on, uses_of_a_buffer_are_one};
 pub use printing::{Printed, print_bus};
 pub use refused::BusRefused;

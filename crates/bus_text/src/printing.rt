@@ -1,7 +1,6 @@
 //! A bus's log, decoded and printed line by line.
-ghost use Rattle.std.specs.Prelude.{◌≡◌, ◌<◌, ◌≤◌, ◌+◌, ◌^◌, ◌∷◌, [], ◌++◌, List, length, true, false, All, OnOk, IfSome, map};
+ghost use Rattle.std.specs.Prelude.{◌≡◌, ◌<◌, ◌≤◌, ◌+◌, ◌^◌, ◌∷◌, [], ◌++◌, List, length, true, false, OnOk, IfSome, map};
 ghost use Rattle.byte_forms.specs.Lines.{all_lines};
-ghost use Rattle.bench_model.specs.Check.{IsValid};
 ghost use Rattle.candump_log.specs.declared.log_line.LogLine.{LogLine as Line};
 ghost use Rattle.candump_log.specs.LineOf.{line_of};
 ghost use Rattle.candump_log.specs.LinesState.{told, fresh, log_of};
@@ -13,8 +12,9 @@ ghost use Rattle.bus_text.specs.LineView.{start_at, line_text, HasDecoded};
 ghost use Rattle.bus_text.specs.Printing.{PrintsBus, Settles, IsWritten};
 ghost use Rattle.bus_text.specs.declared.bus.BusPlace.{BusPlace as Place};
 
-use crate::{BusPlace, BusRefused, TextBuffer, the_text_goes_on};
-use bench_model::{Bench, Item};
+use crate::records::records_of;
+use crate::{BenchImage, BusPlace, BusRefused, TextBuffer, the_text_goes_on};
+use bench_model::Item;
 use candump_log::{Lines, LogLine, NoLines, lines_read};
 use decoded_list::{BusDecoder, Records};
 use port_io::{Sink, Source};
@@ -72,31 +72,33 @@ fn print_records<K: Sink>(
     Ok(())
 }
 
-/// Decodes a line under the bench as version 0, and prints its records.
+/// Decodes a line of the bus at this place over the image as version 0, and prints its records.
 fn print_line<K: Sink>(
-    bench: &Bench,
+    image: &mut BenchImage,
     decoder: &mut BusDecoder,
+    place: u32,
     line: &LogLine,
     wants: &Wants,
     buffer: &mut TextBuffer,
     out: &mut K,
 ) -> Result<(), PrintRefused>
-    requires bus { decoder.old.bus < length bench.now.buses }
-    requires valid { All (λ b. IsValid b.database) bench.now.buses }
+    requires place { place ≡ decoder.old.bus }
+    requires bus { place < length image.old.buses }
     requires room { decoder.old.next + 2 < 2 ^ 64 }
-    ensures prints { (bus : Place) (lines : List Line) → HasDecoded bench.now bus decoder.old lines
-        → PrintsText (line_text wants.now bench.now bus lines line.now)
+    ensures prints { (bus : Place) (lines : List Line) → HasDecoded image.old bus decoder.old lines
+        → PrintsText (line_text wants.now image.old bus lines line.now)
         (output (K.written out.old) (K.write_faults out.old) buffer.old) result
         (output (K.written out.new) (K.write_faults out.new) buffer.new) }
-    ensures decoded { (bus : Place) (lines : List Line) → HasDecoded bench.now bus decoder.old lines
-        → OnOk result (HasDecoded bench.now bus decoder.new (lines ++ line.now ∷ [])) }
+    ensures decoded { (bus : Place) (lines : List Line) → HasDecoded image.old bus decoder.old lines
+        → OnOk result (HasDecoded image.old bus decoder.new (lines ++ line.now ∷ [])) }
     ensures next { OnOk result (decoder.new.next ≤ decoder.old.next + 2) }
     ensures same { decoder.new.bus ≡ decoder.old.bus }
+    ensures bench { image.new ≡ image.old }
     ensures other { K.other out.new ≡ K.other out.old }
 {
     the_text_goes_on();
     let number = decoder.next_number();
-    let records = decoder.step(bench, 0, line)?;
+    let records = records_of(image, decoder, place, line)?;
     print_start(records.own.bus, number, wants, buffer, out)?;
     print_records(records, wants, buffer, out)
 }
@@ -125,21 +127,21 @@ fn print_end<K: Sink>(
 /// Prints the text of the lines that a reader of a log gives, up to the end of the log.
 fn print_lines<S: Source, K: Sink>(
     alloc: Global,
-    bench: &Bench,
+    image: &mut BenchImage,
     bus: BusPlace,
     wants: &Wants,
     lines: &mut Lines<S>,
     buffer: &mut TextBuffer,
     out: &mut K,
 ) -> Result<(), BusRefused>
-    requires bus { bus.place < length bench.now.buses }
-    requires valid { All (λ b. IsValid b.database) bench.now.buses }
+    requires bus { bus.place < length image.old.buses }
     requires fresh { lines.old ≡ fresh lines.old.source lines.old.other }
     requires log { log_of lines.old ≡ lines.old.source.left }
-    ensures prints { PrintsBus wants.now bench.now bus lines.old.source lines.new.source
+    ensures prints { PrintsBus wants.now image.old bus lines.old.source lines.new.source
         (output (K.written out.old) (K.write_faults out.old) buffer.old)
         (output (K.written out.new) (K.write_faults out.new) buffer.new) result }
     ensures short { OnOk result (length buffer.new < buffer_limit) }
+    ensures bench { image.new ≡ image.old }
     ensures log_side { lines.new.other ≡ lines.old.other }
     ensures other { K.other out.new ≡ K.other out.old }
 {
@@ -147,7 +149,7 @@ fn print_lines<S: Source, K: Sink>(
     the_text_goes_on();
     let mut decoder = BusDecoder::new(alloc, bus.place, bus.kind);
     'lines: while let Some(line) = lines.next()? {
-        print_line(bench, &mut decoder, &line, wants, buffer, out)?;
+        print_line(image, &mut decoder, bus.place, &line, wants, buffer, out)?;
     }
     print_end(bus.place, &decoder, wants, buffer, out)?;
     Ok(())
@@ -177,24 +179,23 @@ fn settle<K: Sink>(
 }
 
 /// Prints the text of the bus at this place of the bench, whose kind the bench says: the records of the lines of its
-/// log, decoded under the bench as version 0, between its start and its end, as far as they are wanted. The text goes
-/// through the buffer, which all of a tool's buses share: at the end of a log its last bytes are pending, and the caller
-/// flushes behind the last bus. The log comes back in every case.
+/// log, decoded over the image of the bench as version 0, between its start and its end, as far as they are wanted. The
+/// text goes through the buffer, which all of a tool's buses share: at the end of a log its last bytes are pending, and
+/// the caller flushes behind the last bus. The log comes back in every case.
 pub fn print_bus<S: Source, K: Sink>(
     alloc: Global,
-    bench: &Bench,
+    image: &mut BenchImage,
     place: u32,
     wants: &Wants,
     log: S,
     buffer: &mut TextBuffer,
     out: &mut K,
 ) -> Printed<S>
-    requires bus { place < length bench.now.buses }
-    requires valid { All (λ b. IsValid b.database) bench.now.buses }
+    requires bus { place < length image.old.buses }
     requires log { S.ended log ≡ false }
 
     // What was taken of the log, what of its text was given to the buffer, and the cause of the answer.
-    ensures prints { PrintsBus wants.now bench.now (bus_at bench.now place)
+    ensures prints { PrintsBus wants.now image.old (bus_at image.old place)
         (told (S.left log) (S.taken log) (S.read_faults log) (S.ended log))
         (told (S.left result.log) (S.taken result.log) (S.read_faults result.log) (S.ended result.log))
         (output (K.written out.old) (K.write_faults out.old) buffer.old)
@@ -202,11 +203,12 @@ pub fn print_bus<S: Source, K: Sink>(
     // On Ok the text of all lines was given, nothing else, nothing less.
     ensures ok { OnOk result.end (IfSome (S.left log) (λ bytes. Buffers
         (output (K.written out.old) (K.write_faults out.old) buffer.old)
-        (bus_text wants.now bench.now (bus_at bench.now place) (map line_of (all_lines bytes)))
+        (bus_text wants.now image.old (bus_at image.old place) (map line_of (all_lines bytes)))
         (output (K.written out.new) (K.write_faults out.new) buffer.new))) }
     ensures written { IsWritten result.end buffer.new }
     // However much was pending before.
     ensures short { OnOk result.end (length buffer.new < buffer_limit) }
+    ensures bench { image.new ≡ image.old }
     ensures log_side { S.other result.log ≡ S.other log }
     ensures other { K.other out.new ≡ K.other out.old }
 {
@@ -219,8 +221,8 @@ pub fn print_bus<S: Source, K: Sink>(
             };
         }
     };
-    let bus = BusPlace::of(bench, place);
-    let end = print_lines(alloc, bench, bus, wants, &mut lines, buffer, out);
+    let bus = BusPlace::of(image.bench(), place);
+    let end = print_lines(alloc, image, bus, wants, &mut lines, buffer, out);
     let end = settle(end, buffer, out);
     Printed {
         log: lines.into_source(),

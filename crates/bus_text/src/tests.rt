@@ -1,7 +1,6 @@
 //! What no clause says: that calls succeed with ample memory, and that the worked logs have their texts, read and
 //! written in pieces of any size, and as far as reads and writes succeed.
-ghost use Rattle.std.specs.Prelude.{◌≡◌, ◌≤◌, false, length, All, IfOk};
-ghost use Rattle.bench_model.specs.Check.{IsValid};
+ghost use Rattle.std.specs.Prelude.{◌≡◌, ◌≤◌, false, length, IfOk};
 
 mod cases;
 mod databases;
@@ -33,27 +32,29 @@ const WHOLE: Pieces = Pieces {
     failing_writes: &[],
 };
 
-/// A bench of one bus, that of a case.
-fn bench_of(alloc: Global, case: &Case) -> Result<Bench, Fail>
-    ensures bus { IfOk result (λ bench. length bench.buses ≡ 1) }
-    ensures valid { IfOk result (λ bench. All (λ b. IsValid b.database) bench.buses) }
+/// How many words an image may take.
+const ROOM: usize = 1_000;
+
+/// The image of a bench of one bus, that of a case.
+fn image_of(alloc: Global, case: &Case) -> Result<BenchImage, Fail>
+    ensures bus { IfOk result (λ image. length image.buses ≡ 1) }
 {
     let bus = bus_of(alloc, case.bus, case.kind, case.message.as_ref())?;
-    Ok(Bench {
-        buses: List::of(vec![in alloc; bus]?),
-    })
+    let buses = List::of(vec![in alloc; bus]?);
+    Ok(BenchImage::compile(alloc, Bench { buses }, ROOM)?)
 }
 
-/// A bench of the buses of two cases.
-fn bench_of_two(alloc: Global, first: &Case, second: &Case) -> Result<Bench, Fail>
-    ensures bus { IfOk result (λ bench. length bench.buses ≡ 2) }
-    ensures valid { IfOk result (λ bench. All (λ b. IsValid b.database) bench.buses) }
+/// The image of a bench of the buses of two cases.
+fn image_of_two(alloc: Global, first: &Case, second: &Case) -> Result<BenchImage, Fail>
+    ensures bus { IfOk result (λ image. length image.buses ≡ 2) }
 {
     let one = bus_of(alloc, first.bus, first.kind, first.message.as_ref())?;
     let two = bus_of(alloc, second.bus, second.kind, second.message.as_ref())?;
-    Ok(Bench {
-        buses: List::of(vec![in alloc; one, two]?),
-    })
+    if first.bus == second.bus {
+        return Err("two buses of one name")?;
+    }
+    let buses = List::of(vec![in alloc; one, two]?);
+    Ok(BenchImage::compile(alloc, Bench { buses }, ROOM)?)
 }
 
 /// A log in memory.
@@ -79,7 +80,7 @@ fn print_log(
     requires read { 1 ≤ pieces.read }
     requires write { 1 ≤ pieces.write }
 {
-    let bench = bench_of(alloc, case)?;
+    let mut image = image_of(alloc, case)?;
     let names = vec![in alloc; Text::of(alloc, case.bus)?]?;
     let wants = Wants::all(alloc, &names)?;
     let log = log_of(alloc, log, pieces)?;
@@ -89,7 +90,7 @@ fn print_log(
         Vec::from_slice(alloc, pieces.failing_writes)?,
     );
     let mut buffer = TextBuffer::new(alloc)?;
-    let printed = print_bus(alloc, &bench, 0, &wants, log, &mut buffer, &mut sink);
+    let printed = print_bus(alloc, &mut image, 0, &wants, log, &mut buffer, &mut sink);
     let end = match printed.end {
         Ok(()) => match buffer.flush(&mut sink) {
             Ok(()) => Ok(()),
@@ -222,13 +223,21 @@ fn a_read_that_fails_within_a_line_leaves_that_line_out(rt: HostRuntime) -> Resu
 fn left_of_log(alloc: Global, pieces: Pieces) -> Result<(Result<(), BusRefused>, Vec<u8>), Fail>
     requires { 1 ≤ pieces.read }
 {
-    let bench = bench_of(alloc, &FRAMES)?;
+    let mut image = image_of(alloc, &FRAMES)?;
     let names = vec![in alloc; Text::of(alloc, FRAMES.bus)?]?;
     let wants = Wants::all(alloc, &names)?;
     let log = log_of(alloc, FRAMES.log.as_bytes(), pieces)?;
     let mut sink = MemSink::new(vec![in alloc; 0; 4_096]?, 4_096, Vec::new(alloc));
     let mut buffer = TextBuffer::new(alloc)?;
-    let Printed { mut log, end } = print_bus(alloc, &bench, 0, &wants, log, &mut buffer, &mut sink);
+    let Printed { mut log, end } = print_bus(
+        alloc,
+        &mut image,
+        0,
+        &wants,
+        log,
+        &mut buffer,
+        &mut sink,
+    );
     let mut left = vec![in alloc; 0; 256]?;
     let count = log.read(&mut left)?;
     left.truncate(count);
@@ -253,15 +262,15 @@ fn the_log_comes_back_with_the_bytes_that_were_not_taken(rt: HostRuntime) -> Res
 
 /// Two buses printed through one buffer, the second behind the text of the first, which is still pending.
 fn print_two(alloc: Global, first: &Case, second: &Case) -> Result<MemSink, Fail> {
-    let bench = bench_of_two(alloc, first, second)?;
+    let mut image = image_of_two(alloc, first, second)?;
     let names = vec![in alloc; Text::of(alloc, first.bus)?, Text::of(alloc, second.bus)?]?;
     let wants = Wants::all(alloc, &names)?;
     let mut sink = MemSink::new(vec![in alloc; 0; 4_096]?, 4_096, Vec::new(alloc));
     let mut buffer = TextBuffer::new(alloc)?;
     let log = log_of(alloc, first.log.as_bytes(), WHOLE)?;
-    print_bus(alloc, &bench, 0, &wants, log, &mut buffer, &mut sink).end?;
+    print_bus(alloc, &mut image, 0, &wants, log, &mut buffer, &mut sink).end?;
     let log = log_of(alloc, second.log.as_bytes(), WHOLE)?;
-    print_bus(alloc, &bench, 1, &wants, log, &mut buffer, &mut sink).end?;
+    print_bus(alloc, &mut image, 1, &wants, log, &mut buffer, &mut sink).end?;
     buffer.flush(&mut sink)?;
     Ok(sink)
 }

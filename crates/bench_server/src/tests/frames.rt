@@ -94,14 +94,6 @@ fn raw_values_of_both_orders_are_scaled(rt: HostRuntime) -> Result<(), Fail> {
 const NUMBERS: &[Decoded] = &[
     (
         &[
-            ("bench.txt", b"bus A can a.log a.dbc\nwords 30\n"),
-            SPEED,
-            FRAME,
-        ],
-        SPEED_TEXT,
-    ),
-    (
-        &[
             ("bench.txt", b"bus A can a.log a.dbc\nwords 31\n"),
             SPEED,
             FRAME,

@@ -226,6 +226,41 @@ fn all_databases_are_read_before_one_is_judged(rt: HostRuntime) -> Result<(), Fa
     Ok(())
 }
 
+/// Benches of 31 words in regions of fewer, whose log is not there.
+const LARGE: &[Refused] = &[
+    (
+        &[("bench.txt", b"bus A can a.log a.dbc\nwords 30\n"), SPEED],
+        10,
+        b"large 31 30\n",
+    ),
+    (
+        &[("bench.txt", b"words 1\nbus A can a.log a.dbc\n"), SPEED],
+        10,
+        b"large 31 1\n",
+    ),
+    (
+        &[("bench.txt", b"bus A can a.log a.dbc\nwords 31\n"), SPEED],
+        5,
+        b"open\n",
+    ),
+    (
+        &[
+            ("bench.txt", b"bus A can a.log a.dbc\nwords 1\n"),
+            ("a.dbc", b"VERSION \"\"\n\"open"),
+        ],
+        4,
+        b"refused A string 11\n",
+    ),
+];
+
+#[test]
+fn a_bench_of_more_words_than_a_region_is_large_before_a_log_is_opened(
+    rt: HostRuntime,
+) -> Result<(), Fail> {
+    each_is_refused(&rt, rt.alloc(), LARGE)?;
+    Ok(())
+}
+
 #[test]
 fn a_missing_log_leaves_those_before_it(rt: HostRuntime) -> Result<(), Fail> {
     let case = Case {

@@ -1,8 +1,8 @@
 //! The databases of the worked logs.
-ghost use Rattle.std.specs.Prelude.{IfOk};
+ghost use Rattle.std.specs.Prelude.{◌≡◌, IfOk};
 ghost use Rattle.exact_scale.specs.Limits.{IsScale};
 ghost use Rattle.bench_model.specs.Limits.{IsMade, IsCoding};
-ghost use Rattle.bench_model.specs.Check.{IsValid};
+ghost use Rattle.bench_model.specs.ValidBench.{IsValidBus};
 
 use bench_model::*;
 use exact_scale::{Decimal, Scale};
@@ -153,8 +153,12 @@ fn message_of(alloc: Global, row: &MessageRow) -> Result<Message, Fail>
 
 /// A bus whose database has this message.
 pub(crate) fn bus_of(alloc: Global, name: &[u8], kind: Kind, row: &MessageRow) -> Result<Bus, Fail>
-    ensures { IfOk result (λ bus. IsValid bus.database) }
+    ensures name { IfOk result (λ bus. bus.name ≡ name.now) }
+    ensures valid { IfOk result IsValidBus }
 {
+    if name.is_empty() || name.len() > 32 {
+        return Err("a name of 1 to 32 bytes")?;
+    }
     let message = message_of(alloc, row)?;
     let messages = List::of(vec![in alloc; message]?);
     let valid = check(alloc, Database { messages })?;

@@ -1,8 +1,8 @@
 //! The databases of the worked logs.
-ghost use Rattle.std.specs.Prelude.{All, IfOk, length};
+ghost use Rattle.std.specs.Prelude.{◌≡◌, All, IfOk, length};
 ghost use Rattle.exact_scale.specs.Limits.{IsScale};
 ghost use Rattle.bench_model.specs.Limits.{IsMade, IsEntry, IsCoding};
-ghost use Rattle.bench_model.specs.Check.{IsValid};
+ghost use Rattle.bench_model.specs.ValidBench.{IsValidBus};
 
 use bench_model::*;
 use exact_scale::{Decimal, Scale};
@@ -198,8 +198,12 @@ pub(crate) fn bus_of(
     kind: Kind,
     row: Option<&MessageRow>,
 ) -> Result<Bus, Fail>
-    ensures { IfOk result (λ bus. IsValid bus.database) }
+    ensures name { IfOk result (λ bus. bus.name ≡ name.now) }
+    ensures valid { IfOk result IsValidBus }
 {
+    if name.is_empty() || name.len() > 32 {
+        return Err("a name of 1 to 32 bytes")?;
+    }
     let messages = List::of(messages_of(alloc, row)?);
     let valid = check(alloc, Database { messages })?;
     Ok(Bus {

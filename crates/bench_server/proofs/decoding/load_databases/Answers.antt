@@ -15,11 +15,11 @@ pub returns-in_err-judge_bench : goal.returns-in_err-judge_bench
 returns-in_err-judge_bench g c =
     let why = c.in_err-judge_bench.field-0.0 in
     rw (same_error c.from_residual-in_err-judge_bench.result (of_bench why) c.from_residual-in_err-judge_bench.ensures)
-    (load_judged _ _ c.args.buses.now c.in_ok-files.files.items c.in_ok-files.ensures (Err why)
+    (load_judged _ _ c.args.buses.now c.requires.planned c.in_ok-files.files.items c.in_ok-files.ensures (Err why)
     (subst (λ (read : List DatabaseFile). JudgesBench (zip c.args.buses.now read) (Err why)) c.deref.ensures.value c.in_err-judge_bench.ensures.judges))
 
 pub returns : goal.returns
 returns g c =
     let made = c.in_ok-judge_bench.field-0 in
-    load_judged _ _ c.args.buses.now c.in_ok-files.files.items c.in_ok-files.ensures (Ok made)
+    load_judged _ _ c.args.buses.now c.requires.planned c.in_ok-files.files.items c.in_ok-files.ensures (Ok made)
     (subst (λ (read : List DatabaseFile). JudgesBench (zip c.args.buses.now read) (Ok made)) c.deref.ensures.value c.in_ok-judge_bench.ensures.judges)

@@ -2,6 +2,7 @@ use Rattle.std.proofs.Common.{◌≡◌, ◌≤◌, false, length, map, refl, ap
 use Rattle.std.proofs.lemmas.List.{length-map}
 use Rattle.std.proofs.lemmas.List.Elements.{All-map}
 use Rattle.port_io.specs.OtherSide.{SourceState}
+use Rattle.bench_model.specs.declared.database.Bench.{Bench}
 use Rattle.candump_log.specs.LinesState.{told}
 use Rattle.bus_text.specs.Buffering.{output}
 use Rattle.bench_text.specs.declared.refused.BusesRefused.TheVariants as buses
@@ -12,9 +13,10 @@ pub loop-place-init : goal.loop-place-init
 loop-place-init g c =
     let tells : g.row.S.Denot → SourceState = λ log. told (g.S.Source.left log) (g.S.Source.taken log) (g.S.Source.read_faults log) (g.S.Source.ended log) in
     record {
-      goes = goes_on_from c.uses_of_a_buffer_are_one.ensures.unused c.args.wants.now c.args.bench.now (map tells c.args.logs.now.items)
+      goes = goes_on_from c.uses_of_a_buffer_are_one.ensures.unused c.args.wants.now c.args.image.now (map tells c.args.logs.now.items)
           (output (g.K.Sink.written c.args.out.now) (g.K.Sink.write_faults c.args.out.now) c.args.buffer.now)
           (All-map (λ (s : SourceState). s.ended ≡ false) tells c.args.logs.now.items c.requires.fresh);
+      bench = refl;
       len = refl;
       log_sides = refl;
       other = refl;
@@ -25,19 +27,20 @@ print_at-requires-clause-log g c =
     let tells : g.row.S.Denot → SourceState = λ log. told (g.S.Source.left log) (g.S.Source.taken log) (g.S.Source.read_faults log) (g.S.Source.ended log) in
     let items = c.loop-place.logs.items in
     next_log c.loop-place.invariant.goes
-    (omega (arith, length-map items tells, c.loop-place.logs.ok, c.loop-place.invariant.len, c.requires.count, ap length c.items.ensures, c.loop-place-test.true))
+    (omega (arith, length-map items tells, c.loop-place.logs.ok, c.loop-place.invariant.len, c.requires.count, ap length c.items.ensures, ap (λ (b : Bench). length b.buses) c.bench.ensures.bench, c.loop-place-test.true))
 
 pub returns-in-Err-clause-prints : goal.returns-in-Err-clause-prints
 returns-in-Err-clause-prints g c =
     let law = c.uses_of_a_buffer_are_one.ensures in
     let e = c.print_at.ensures in
-    rw c.refused_at.ensures (stopped law.joined law.written c.in-Err.why c.loop-place.invariant.goes (rw c.in-Err.is at e.prints) c.requires.empty (rw c.in-Err.is at e.written))
+    rw c.refused_at.ensures (stopped law.joined law.written c.in-Err.why c.loop-place.invariant.goes (rw (c.in-Err.is, c.loop-place.invariant.bench) at e.prints) c.requires.empty (rw c.in-Err.is at e.written))
 
 pub loop-place-preserved : goal.loop-place-preserved
 loop-place-preserved g c =
     let e = c.print_at.ensures in
     record {
-      goes = goes_on c.uses_of_a_buffer_are_one.ensures.joined c.loop-place.invariant.goes (rw c.in_default.is at e.prints);
+      goes = goes_on c.uses_of_a_buffer_are_one.ensures.joined c.loop-place.invariant.goes (rw (c.in_default.is, c.loop-place.invariant.bench) at e.prints);
+      bench = e.bench ∙ c.loop-place.invariant.bench;
       len = e.count ∙ c.loop-place.invariant.len;
       log_sides = e.log_sides ∙ c.loop-place.invariant.log_sides;
       other = e.other ∙ c.loop-place.invariant.other;
@@ -46,7 +49,7 @@ loop-place-preserved g c =
 pub returns-in_err-flush-clause-prints : goal.returns-in_err-flush-clause-prints
 returns-in_err-flush-clause-prints g c =
     let tells : g.row.S.Denot → SourceState = λ log. told (g.S.Source.left log) (g.S.Source.taken log) (g.S.Source.read_faults log) (g.S.Source.ended log) in
-    let all : length (map tells c.args.logs.now.items) ≤ c.loop-place.place = omega (arith, length-map c.args.logs.now.items tells, c.args.logs.now.ok, c.requires.count, ap length c.items.ensures, c.loop-place-test.false) in
+    let all : length (map tells c.args.logs.now.items) ≤ c.loop-place.place = omega (arith, length-map c.args.logs.now.items tells, c.args.logs.now.ok, c.requires.count, ap length c.items.ensures, ap (λ (b : Bench). length b.buses) c.bench.ensures.bench, c.loop-place-test.false) in
     rw (same_error c.from_residual.result buses.WriteFault c.from_residual.ensures)
     (not_flushed c.uses_of_a_buffer_are_one.ensures.joined c.loop-place.invariant.goes all c.flush.ensures.kept c.requires.empty c.in_err-flush.ensures.cause.failed)
 
@@ -55,5 +58,5 @@ returns-clause-prints g c =
     let tells : g.row.S.Denot → SourceState = λ log. told (g.S.Source.left log) (g.S.Source.taken log) (g.S.Source.read_faults log) (g.S.Source.ended log) in
     let law = c.uses_of_a_buffer_are_one.ensures in
     printed law.joined law.written c.loop-place.invariant.goes
-    (omega (arith, length-map c.args.logs.now.items tells, c.args.logs.now.ok, c.requires.count, ap length c.items.ensures, c.loop-place-test.false))
+    (omega (arith, length-map c.args.logs.now.items tells, c.args.logs.now.ok, c.requires.count, ap length c.items.ensures, ap (λ (b : Bench). length b.buses) c.bench.ensures.bench, c.loop-place-test.false))
     c.flush.ensures.kept c.requires.empty c.in_ok-flush.ensures.all

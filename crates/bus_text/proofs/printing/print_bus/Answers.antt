@@ -1,4 +1,5 @@
-use Rattle.std.proofs.Common.{◌≡◌, sym, ap, subst}
+use Rattle.std.proofs.Common.{◌≡◌, sym, ap, subst, ◌∙◌}
+use Rattle.bench_model.specs.declared.database.Bench.{Bench}
 use Rattle.port_io.specs.OtherSide.{SourceState}
 use Rattle.candump_log.specs.LinesState.{LinesState, told}
 use Rattle.bus_text.specs.declared.bus.BusPlace.{BusPlace}
@@ -10,7 +11,7 @@ use Rattle.bus_text.proofs.printing.print_bus.Goals as goal
 
 pub returns-in-Err-clause-prints : goal.returns-in-Err-clause-prints
 returns-in-Err-clause-prints g c =
-    rw c.in-Err.ensures.refused (settled (nothing_read c.args.wants.now c.args.bench.now (bus_at c.args.bench.now c.args.place) _ _) c.settle.ensures.kept c.settle.ensures.answer)
+    rw c.in-Err.ensures.refused (settled (nothing_read c.args.wants.now c.args.image.now (bus_at c.args.image.now c.args.place) _ _) c.settle.ensures.kept c.settle.ensures.answer)
 
 pub returns-clause-prints : goal.returns-clause-prints
 returns-clause-prints g c =
@@ -19,11 +20,11 @@ returns-clause-prints g c =
     let now = output (g.K.Sink.written c.settle-end.new.out) (g.K.Sink.write_faults c.settle-end.new.out) c.settle-end.new.buffer in
     let made : c.in-Ok.lines.source ≡ log = ap (λ (l : LinesState). l.source) c.in-Ok.ensures.lines in
     let bus = c.of-bus.result in
-    let P : SourceState → Type 0 = λ s. PrintsBus c.args.wants.now c.args.bench.now bus s c.print_lines-end.new.lines.source before now c.settle-end.result in
-    let Q : SourceState → Type 0 = λ s. PrintsBus c.args.wants.now c.args.bench.now bus log s before now c.settle-end.result in
+    let P : SourceState → Type 0 = λ s. PrintsBus c.args.wants.now c.args.image.now bus s c.print_lines-end.new.lines.source before now c.settle-end.result in
+    let Q : SourceState → Type 0 = λ s. PrintsBus c.args.wants.now c.args.image.now bus log s before now c.settle-end.result in
     let back = told (g.S.Source.left c.into_source.result) (g.S.Source.taken c.into_source.result) (g.S.Source.read_faults c.into_source.result) (g.S.Source.ended c.into_source.result) in
-    let R : BusPlace → Type 0 = λ b. PrintsBus c.args.wants.now c.args.bench.now b log back before now c.settle-end.result in
-    subst R c.of-bus.ensures (subst Q (sym c.into_source.ensures.source) (subst P made (settled c.print_lines-end.ensures.prints c.settle-end.ensures.kept c.settle-end.ensures.answer)))
+    let R : BusPlace → Type 0 = λ b. PrintsBus c.args.wants.now c.args.image.now b log back before now c.settle-end.result in
+    subst R (c.of-bus.ensures ∙ ap (λ (b : Bench). bus_at b c.args.place) c.bench.ensures.bench) (subst Q (sym c.into_source.ensures.source) (subst P made (settled c.print_lines-end.ensures.prints c.settle-end.ensures.kept c.settle-end.ensures.answer)))
 
 pub returns-in-Err-clause-ok : goal.returns-in-Err-clause-ok
 returns-in-Err-clause-ok g c = whole_on_ok c.settle.result (returns-in-Err-clause-prints g c)

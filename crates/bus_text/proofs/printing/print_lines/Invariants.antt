@@ -7,7 +7,8 @@ use Rattle.bus_text.proofs.printing.print_lines.Given as goal
 -- the text of the lines read so far was given
 abbrev pub invariant-lines : goal.invariant-lines
 invariant-lines g l = record {
-  goes : GoesOn l.fn.wants l.fn.bench l.fn.bus l.fn.lines l.lines (output (g.K.Sink.written l.fn.out) (g.K.Sink.write_faults l.fn.out) l.fn.buffer) (output (g.K.Sink.written l.out) (g.K.Sink.write_faults l.out) l.buffer) l.decoder;
+  goes : GoesOn l.fn.wants l.fn.image l.fn.bus l.fn.lines l.lines (output (g.K.Sink.written l.fn.out) (g.K.Sink.write_faults l.fn.out) l.fn.buffer) (output (g.K.Sink.written l.out) (g.K.Sink.write_faults l.out) l.buffer) l.decoder;
+  bench : l.image ≡ l.fn.image;
   other : g.K.Sink.other l.out ≡ g.K.Sink.other l.fn.out;
 }
 
