@@ -15,6 +15,6 @@ returns-clause-records c = λ before taken.
     let said = subst (λ (b : ℕ). IsSaidOf (bench_meaning c.args.image.now b) line c.in_ok-said.said) c.requires.place c.in_ok-said.ensures.said in
     let brought = c.in_ok-brought.ensures.brought before taken ∙ ap (λ (d : BusDecoder). brought_on d.kind before line) (sym same) in
     let whole = subst (λ (b : ℕ). IsSaidOfMessage (bench_meaning c.args.image.now b) c.in_ok-brought.brought c.in_ok-whole.whole) c.requires.place
-        (subst (λ (i : Bench). IsSaidOfMessage (bench_meaning i c.args.bus) c.in_ok-brought.brought c.in_ok-whole.whole) c.said_of.ensures.bench c.in_ok-whole.ensures.said) in
+    (subst (λ (i : Bench). IsSaidOfMessage (bench_meaning i c.args.bus) c.in_ok-brought.brought c.in_ok-whole.whole) c.said_of.ensures.bench c.in_ok-whole.ensures.said) in
     subst (λ (d : BusDecoder). IfOk c.records.result (λ records. record_list records ≡ records_at meaning d.kind (record { bus = d.bus; version = 0 }) before d.next line))
     same (c.records.ensures.records meaning before said brought whole)
