@@ -1,6 +1,6 @@
 #!/usr/bin/env bash
 # Decodes the example of examples/first/ a second time, with Python that shares nothing with the program (whole payloads
-# as integers, shifts and masks, exact fractions), and compares the two texts.
+# as integers, shifts and masks, exact decimals), and compares the two texts.
 . "$(dirname "$0")/../bench/program.sh"
 cd "$top/examples/first"
 

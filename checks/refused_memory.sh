@@ -1,6 +1,6 @@
 #!/usr/bin/env bash
 # Refuses the proved program memory: each of its allocations fails in one run, the first, the second and so on.
-# A run must end with status 0 (Ok) and the whole text, or with 11 (Memory) and a front of it.
+# A run must end with status 0 (Ok) and the whole text, or with 11 (Memory) and a prefix of it.
 # Over the stored run of crates/sigserve. Wants cc, for a malloc and a realloc that count and refuse.
 . "$(dirname "$0")/../bench/program.sh"
 

@@ -17,10 +17,10 @@ use Rattle.candump_log.specs.LineOf.{line_of}
 use Rattle.image_words.specs.Knowledge.{Fits}
 use Rattle.image_words.specs.Whole.{all_of}
 use Rattle.image_words.specs.Visits.{Run, IsGiven, IsGivenMatch}
-use Rattle.mill_log.specs.GeneratedLog.{log_from}
+use Rattle.mill_log.specs.GeneratedLog.{log_from, generated_log}
 use Rattle.bench_mill.specs.declared.totals.Totals.{Totals}
 use Rattle.bench_mill.specs.GeneratedBench.{generated_bench}
-use Rattle.bench_mill.specs.Totals.{line_meaning, plains, values, raw_sum, AreTotalsOf, AreTotals, Adds, none, IsMessageMore, IsValueMore}
+use Rattle.bench_mill.specs.Totals.{line_meaning, plains, values, raw_sum, AreTotalsOf, AreTotals, mill_totals, Adds, none, IsMessageMore, IsValueMore}
 
 -- what a visitor that adds up makes of a name and of a value
 abbrev pub named : Totals → List ℕ → Totals → Type 0
@@ -158,3 +158,8 @@ piece_adds seed first count old new bytes joined e t h =
 pub none_made : (seed : ℕ) → AreTotals (all_lines (log_from seed 0 0)) none
 unfolding log_from all_lines
 none_made seed = none_yet
+
+-- the three numbers of the whole log
+pub all_counted : (frames : ℕ) (t : Totals) → AreTotals (all_lines (generated_log frames)) t → t ≡ mill_totals frames
+unfolding mill_totals
+all_counted frames t h = rw (sym h.frames, sym h.signals, sym h.sum) refl

@@ -7,9 +7,11 @@ use Rattle.bench_model.specs.declared.reading.Ask.TheVariants as ask
 use Rattle.bench_model.specs.declared.reading.Plain.{Plain}
 use Rattle.bench_model.specs.declared.reading.SignalValue.{SignalValue}
 use Rattle.bench_model.specs.Meaning.{bench_meaning}
+use Rattle.byte_forms.specs.Lines.{all_lines}
 use Rattle.candump_log.specs.declared.log_line.LogLine.{LogLine}
 use Rattle.candump_log.specs.declared.log_line.LogLine.TheVariants as line
 use Rattle.candump_log.specs.LineOf.{line_of}
+use Rattle.mill_log.specs.GeneratedLog.{generated_log}
 use Rattle.bench_mill.specs.declared.totals.Totals.{Totals}
 use Rattle.bench_mill.specs.GeneratedBench.{generated_bench}
 
@@ -41,6 +43,12 @@ pub record AreTotalsOf (ps : List Plain) (totals : Totals) : Type 0 where
 abbrev pub AreTotals : List (List ℕ) → Totals → Type 0
 AreTotals lines totals = AreTotalsOf (plains lines) totals
 
+-- those of the generated log of so many frames
+unfoldable pub mill_totals : ℕ → Totals
+mill_totals frames =
+    let ps = plains (all_lines (generated_log frames)) in
+    record { frames = length ps; signals = length (values ps); sum = raw_sum (values ps) }
+
 -- whatever lines were counted before, these come to them
 abbrev pub Adds : Totals → List (List ℕ) → Totals → Type 0
 Adds old lines new = (done : List (List ℕ)) → AreTotals done old → AreTotals (done ++ lines) new
@@ -67,3 +75,7 @@ abbrev pub totals_text : Totals → List ℕ
 totals_text t =
     number_line (codes "frames ") (decimal t.frames) ++ (number_line (codes "signals ") (decimal t.signals)
     ++ number_line (codes "sum ") (signed_decimal t.sum))
+
+-- what `mill` writes for so many frames
+abbrev pub mill_text : ℕ → List ℕ
+mill_text frames = totals_text (mill_totals frames)

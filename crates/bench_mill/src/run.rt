@@ -3,9 +3,8 @@
 ghost use Rattle.std.specs.Prelude.{◌≡◌, ◌∷◌, [], OnOk, IfOk};
 ghost use Rattle.byte_forms.specs.Lines.{all_lines};
 ghost use Rattle.image_words.specs.Image.{Encodes};
-ghost use Rattle.mill_log.specs.GeneratedLog.{generated_log};
 ghost use Rattle.bench_mill.specs.GeneratedBench.{generated_bench};
-ghost use Rattle.bench_mill.specs.Totals.{AreTotals, Adds};
+ghost use Rattle.bench_mill.specs.Totals.{Adds, mill_totals};
 
 use crate::Totals;
 use crate::image::{generated_image, the_bench_is_valid};
@@ -61,7 +60,7 @@ fn add_lines(
 /// How many frames of the generated log of so many frames a message of the generated database matches, how many
 /// signals they have, and the sum of their raw values. The log is made piece by piece.
 pub fn mill(alloc: Global, frames: u32) -> Result<Totals, AllocError>
-    ensures { IfOk result (AreTotals (all_lines (generated_log frames))) }
+    ensures { IfOk result (λ totals. totals ≡ mill_totals frames) }
 {
     pieces_are_the_log();
     let mut image = generated_image(alloc)?;

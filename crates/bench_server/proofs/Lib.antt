@@ -9,6 +9,7 @@ mod ValidLaws
 mod LoadLaws
 mod CountLaws
 mod CheckLaws
+mod MillLaws
 mod PieceLaws
 mod ToolLaws
 mod WholeLaws

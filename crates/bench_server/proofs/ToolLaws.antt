@@ -148,3 +148,4 @@ exact_by (Some (commands.Decodes bench)) s end one check h =
 exact_by (Some (commands.Checks file)) s end one check h =
     if_some s.library.files (λ files. (v : CheckVerdict) → IsCheckVerdict files file v → AgreesCheck v s end) (λ files e v i.
     check_agrees files file s (check files file) end (of_some s.library.files (λ files. ShowsCheck files file s end) files e h.shows) v i)
+exact_by (Some (commands.Mills frames)) s end one check h = tt

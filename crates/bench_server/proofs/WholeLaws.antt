@@ -13,6 +13,7 @@ use Rattle.bench_server.specs.declared.status.Status.{Status}
 use Rattle.bench_server.specs.declared.status.Status.TheVariants as status
 use Rattle.bench_server.specs.Outcomes.{Seen, HasFailed, IsTooLong, StopsAt, IsLogOf, WroteTo, Caused, Decodes, Shows, EndsDecode}
 use Rattle.bench_server.specs.CheckOutcomes.{CausedCheck, ShowsCheck, EndsCheck}
+use Rattle.bench_server.specs.MillOutcomes.{CausedMill, EndsMill}
 use Rattle.bench_server.specs.Tool.{Decided, NothingFailed, AreShort, IsWhole}
 use Rattle.bench_server.proofs.OptionLaws.{of_some}
 
@@ -102,3 +103,19 @@ pub whole_check : ((files : Files) (name : List ℕ) (v w : CheckVerdict) → Is
     → (files : Files) (name : List ℕ) (d : Database) (s : Seen) (end : Status) → s.library.files ≡ Some files → HoldsNamed files name d → EndsCheck name s end → NothingFailed s → IsWhole end
 whole_check one files name d s end e holds h n =
     whole_check_by files name s d holds n (one files name) end h.caused (of_some s.library.files (λ files. ShowsCheck files name s end) files e h.shows)
+
+whole_mill_by : (frames : ℕ) (s : Seen) (end : Status) → NothingFailed s → CausedMill frames s end → IsWhole end
+whole_mill_by frames s status.Ok n c = inl refl
+whole_mill_by frames s status.Usage n c = absurd c
+whole_mill_by frames s (status.BenchFile line) n c = absurd c
+whole_mill_by frames s (status.Refused bus fault) n c = absurd c
+whole_mill_by frames s (status.TooLarge need room) n c = absurd c
+whole_mill_by frames s status.OpenFault n c = absurd c
+whole_mill_by frames s (status.ReadFault bus) n c = absurd c
+whole_mill_by frames s status.WriteFault n c = absurd (n.writes c.0)
+whole_mill_by frames s (status.TooLong bus) n c = absurd c
+whole_mill_by frames s status.Memory n c = inr refl
+
+-- so is each run of `mill`
+pub whole_mill : (frames : ℕ) (s : Seen) (end : Status) → EndsMill frames s end → NothingFailed s → IsWhole end
+whole_mill frames s end h n = whole_mill_by frames s end n h.caused

@@ -71,4 +71,4 @@ status_of (ended.Plan why) = plan_status why
 status_of (ended.Decode end) = decode_status end
 status_of (ended.Check why) = check_status why
 status_of (ended.Write end) = written_status end
-status_of ended.Report = status.Memory
+status_of ended.Memory = status.Memory

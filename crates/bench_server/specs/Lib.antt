@@ -2,6 +2,7 @@
 pub mod ToolText
 pub mod Outcomes
 pub mod CheckOutcomes
+pub mod MillOutcomes
 pub mod StatusCode
 pub mod FaultLine
 pub mod Tool

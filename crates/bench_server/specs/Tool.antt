@@ -3,7 +3,7 @@ use Rattle.std.specs.Prelude.{◌≡◌, ◌⊎◌, ℕ, ◌<◌, List, [], leng
 use Rattle.port_io.specs.Causes.{Rose}
 use Rattle.port_io.specs.OtherSide.{SourceState, SinkState}
 use Rattle.candump_log.specs.LinesState.{log_limit}
-use Rattle.tool_words.specs.Commands.{ToolCommand, Decodes, Checks}
+use Rattle.tool_words.specs.Commands.{ToolCommand, Decodes, Checks, Mills}
 use Rattle.bench_file.specs.declared.plan.Plan.{Plan}
 use Rattle.bench_file.specs.declared.plan.PlannedBus.{PlannedBus}
 use Rattle.bench_inputs.specs.Asking.{Files}
@@ -16,6 +16,7 @@ use Rattle.bench_loader.specs.Checking.{CheckVerdict, not_there, has_fault, has_
 use Rattle.bench_server.specs.ToolText.{tool_text, check_text}
 use Rattle.bench_server.specs.Outcomes.{Seen, Wrote, WrotePrefix, DidNothing, StopsAt, WroteTo, EndsDecode}
 use Rattle.bench_server.specs.CheckOutcomes.{EndsCheck}
+use Rattle.bench_server.specs.MillOutcomes.{EndsMill}
 use Rattle.bench_server.specs.Pieces.{WritesFront}
 use Rattle.bench_server.specs.FaultLine.{fault_line}
 
@@ -31,6 +32,7 @@ abbrev pub EndsTool : Option ToolCommand → Seen → Status → Type 0
 EndsTool None s end = IsUsage s end
 EndsTool (Some (Decodes bench)) s end = EndsDecode bench s end
 EndsTool (Some (Checks file)) s end = EndsCheck file s end
+EndsTool (Some (Mills frames)) s end = EndsMill frames s end
 
 -- the files decide that logs are decoded, and this holds of the run
 abbrev pub Decided : Verdict → (Run → Type 0) → Type 0
@@ -84,13 +86,14 @@ AgreesCheck v s status.WriteFault = Held v (λ d. WrotePrefix s (check_text d))
 AgreesCheck v s (status.TooLong bus) = ⊥
 AgreesCheck v s status.Memory = Unit {0}
 
--- whatever verdict the files have, the status agrees with it
+-- whatever verdict the files have, the status agrees with it; where no file is asked for, they have none
 abbrev pub AgreesWithFiles : Option ToolCommand → Seen → Status → Type 0
 AgreesWithFiles None s end = Unit {0}
 AgreesWithFiles (Some (Decodes bench)) s end =
     IfSome s.library.files (λ files. (v : Verdict) → IsVerdict files bench v → Agrees v s end)
 AgreesWithFiles (Some (Checks file)) s end =
     IfSome s.library.files (λ files. (v : CheckVerdict) → IsCheckVerdict files file v → AgreesCheck v s end)
+AgreesWithFiles (Some (Mills frames)) s end = Unit {0}
 
 -- the names of the buses that the bench file of this name plans
 abbrev pub plan_names : List PlannedBus → List (List ℕ)
@@ -126,6 +129,7 @@ abbrev pub ReportsTool : Option Files → Option ToolCommand → SinkState → S
 ReportsTool files (Some (Decodes bench)) err err_now end =
     Reports (λ names. IfSome files (λ fs. NamesBuses fs bench names end)) err err_now end
 ReportsTool files (Some (Checks file)) err err_now end = Reports (λ names. names ≡ []) err err_now end
+ReportsTool files (Some (Mills frames)) err err_now end = Reports (λ names. names ≡ []) err err_now end
 ReportsTool files None err err_now end = Reports (λ names. names ≡ []) err err_now end
 
 -- no count of faults rose, of the library, of the output or of a log

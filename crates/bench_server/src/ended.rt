@@ -23,8 +23,8 @@ pub(crate) enum Ended {
     Check(CheckRefused),
     /// What a database has was written, or not.
     Write(Result<(), Failed>),
-    /// There is no memory for the line of a database that is refused.
-    Report,
+    /// There is no memory for a line, or for generated frames.
+    Memory,
 }
 
 /// The status of an end.
@@ -57,6 +57,6 @@ pub(crate) fn status_of(ended: Ended) -> Status
         Ended::Plan(BenchRefused::Memory)
         | Ended::Decode(Err(DecodeRefused::Memory))
         | Ended::Check(CheckRefused::Memory)
-        | Ended::Report => Status::Memory,
+        | Ended::Memory => Status::Memory,
     }
 }

@@ -14,6 +14,7 @@ mod checking;
 mod decoding;
 mod ended;
 mod laws;
+mod milling;
 mod pieces;
 mod refused;
 mod report;

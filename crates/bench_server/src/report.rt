@@ -129,7 +129,7 @@ pub(crate) fn report<E: Sink>(
             status
         }
         Err(_) => {
-            let memory = status_of(Ended::Report);
+            let memory = status_of(Ended::Memory);
             append_line(err, buses, &memory);
             memory
         }

@@ -10,6 +10,7 @@ mod buses;
 mod checks;
 mod failures;
 mod frames;
+mod milling;
 mod refusals;
 
 /// A file by its name.

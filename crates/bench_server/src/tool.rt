@@ -16,6 +16,7 @@ use crate::Status;
 use crate::checking::check;
 use crate::decoding::decode;
 use crate::ended::{Ended, status_of};
+use crate::milling::mill;
 use crate::report::report;
 use bench_file::limits_of_a_plan;
 use bench_inputs::read_bench;
@@ -96,12 +97,17 @@ fn run<B: Library, K: Sink, E: Sink>(
             let status = check(alloc, library, file, out);
             report(alloc, err, &[], status)
         }
+        Some(Command::Mill { frames }) => {
+            let status = mill(alloc, frames, out);
+            report(alloc, err, &[], status)
+        }
         None => report(alloc, err, &[], status_of(Ended::Usage)),
     }
 }
 
 /// What the program does for the words of its command line: `decode BENCH` appends to `out` the text of each bus that
-/// the bench file names, `check FILE` how much a database has; any status but `Ok` appends its line to `err`.
+/// the bench file names, `check FILE` how much a database has, `mill N` the three numbers of so many generated frames;
+/// any status but `Ok` appends its line to `err`.
 pub fn run_tool<B: Library, K: Sink, E: Sink>(
     alloc: Global,
     words: &[String],

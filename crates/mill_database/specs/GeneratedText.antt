@@ -1,14 +1,13 @@
 -- The DBC file that is made for `mill`, which is this project's own: 64 messages with the same four signals each.
 use Rattle.std.specs.Prelude.{ℕ, ◌+◌, List, ◌++◌, codes, decimal}
 use Rattle.std.specs.List.{flat_map, range_with_len}
+use Rattle.mill_log.specs.GeneratedLog.{first_id}
 
--- how many messages there are, and the identifier of the first
+-- how many messages there are
 abbrev pub message_count : ℕ
 message_count = 64
 
-abbrev pub first_id : ℕ
-first_id = 256
-
+-- their identifiers
 abbrev pub id_of : ℕ → ℕ
 id_of j = first_id + j
 

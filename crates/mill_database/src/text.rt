@@ -4,12 +4,11 @@ ghost use Rattle.std.specs.Prelude.{◌≡◌, ◌<◌, ◌++◌, IfOk, OnOk};
 ghost use Rattle.mill_database.specs.GeneratedText.{message_count, message_text, generated_text};
 
 use itoa::Buffer;
+use mill_log::FIRST_ID;
 use std::alloc::{AllocError, Global};
 
-/// How many messages there are, and the identifier of the first.
+/// How many messages there are.
 const MESSAGES: u32 = 64;
-
-const FIRST_ID: u32 = 256;
 
 /// The lines of a message's signals.
 const SIGNAL_LINES: &[u8] = b" SG_ S0 : 0|16@1+ (0.5,0) [0|0] \"\" Mill

@@ -9,9 +9,10 @@ use crate::digits::{last_six, last_ten, last_three_hex};
 use byte_forms::hex_of_byte;
 use std::alloc::AllocError;
 
-/// The identifier of the first message, and the microseconds between two frames.
-const FIRST_ID: u32 = 256;
+/// The identifier of the first message.
+pub const FIRST_ID: u32 = 256;
 
+/// The microseconds between two frames.
 const STEP: u64 = 100;
 
 /// The number after another.

@@ -13,7 +13,7 @@ mod frames;
 mod laws;
 mod piece;
 
-pub use frames::push_frames;
+pub use frames::{FIRST_ID, push_frames};
 pub use laws::pieces_are_the_log;
 pub use piece::LogPiece;
 

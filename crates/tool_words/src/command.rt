@@ -2,8 +2,13 @@
 
 ghost use Rattle.std.specs.Prelude.{[], ◌∷◌, ◌≡◌, None, Some, map, string_bytes};
 ghost use Rattle.tool_words.specs.Operands.{is_option, is_dashes, operands, only_operand};
-ghost use Rattle.tool_words.specs.Commands.{command_of, is_ldf_name};
+ghost use Rattle.tool_words.specs.Commands.{frame_count, command_of, is_ldf_name};
 ghost use Rattle.tool_words.specs.WordView.{words_of, word_view, command_view};
+
+use byte_forms::{Radix, number_up_to};
+
+/// The most frames that are generated.
+const MOST_FRAMES: u64 = 1_000_000;
 
 /// A command of the tool.
 #[derive(Clone, Copy, Debug, PartialEq, Eq)]
@@ -12,6 +17,8 @@ pub enum Command<'a> {
     Decode { bench: &'a str },
     /// `check FILE`: reads a database.
     Check { file: &'a str },
+    /// `mill N`: decodes so many generated frames.
+    Mill { frames: u32 },
 }
 
 /// Whether a word is an option: it begins with `-` and is more than that.
@@ -68,6 +75,14 @@ fn operand(words: &[String]) -> Option<&str>
     }
 }
 
+/// The number of frames that a word of digits says, from 1 to the limit.
+fn frame_count(word: &str) -> Option<u32>
+    ensures { result ≡ frame_count word.now }
+{
+    let count = number_up_to(Radix::Decimal, MOST_FRAMES, word.as_bytes())?;
+    if count == 0 { None } else { Some(count as u32) }
+}
+
 /// The command that words name, or none where they are not taken.
 pub fn command_of(words: &[String]) -> Option<Command<'_>>
     ensures { command_view result ≡ command_of (words_of words.now) }
@@ -81,6 +96,9 @@ pub fn command_of(words: &[String]) -> Option<Command<'_>>
         }),
         "check" => Some(Command::Check {
             file: operand(rest)?,
+        }),
+        "mill" => Some(Command::Mill {
+            frames: frame_count(operand(rest)?)?,
         }),
         _ => None,
     }

@@ -42,8 +42,36 @@ fn words_name_commands(rt: HostRuntime) -> Result<(), Fail> {
         (&["decode", "a", "--", "b"], None),
         (&["--", "decode", "a"], None),
         (&["help"], None),
-        (&["mill", "1"], None),
+        (&["mills", "1"], None),
         (&["Decode", "a"], None),
+    ];
+    name_commands(&rt, rt.alloc(), &rows)
+}
+
+const fn mill(frames: u32) -> Option<Command<'static>> {
+    Some(Command::Mill { frames })
+}
+
+#[test]
+fn mill_takes_one_to_a_million_frames(rt: HostRuntime) -> Result<(), Fail> {
+    let rows: [Row; 14] = [
+        (&["mill", "1"], mill(1)),
+        (&["mill", "007"], mill(7)),
+        (
+            &["mill", "00000000000000000000000000000000000000001"],
+            mill(1),
+        ),
+        (&["mill", "1000000"], mill(1_000_000)),
+        (&["mill", "--", "1"], mill(1)),
+        (&["mill", "0"], None),
+        (&["mill", "1000001"], None),
+        (&["mill", "18446744073709551617"], None),
+        (&["mill", ""], None),
+        (&["mill", "+1"], None),
+        (&["mill", "--", "-1"], None),
+        (&["mill", "1x"], None),
+        (&["mill"], None),
+        (&["mill", "1", "2"], None),
     ];
     name_commands(&rt, rt.alloc(), &rows)
 }

@@ -2,7 +2,7 @@ use Rattle.std.proofs.Common.{◌≡◌, ◌∙◌, ◌++◌, ap, sym, subst, ar
 use Rattle.byte_forms.specs.Lines.{all_lines}
 use Rattle.mill_log.specs.GeneratedLog.{number_at, log_from}
 use Rattle.bench_mill.specs.Totals.{AreTotals}
-use Rattle.bench_mill.proofs.SumLaws.{piece_adds, none_made}
+use Rattle.bench_mill.proofs.SumLaws.{piece_adds, none_made, all_counted}
 use Rattle.bench_mill.proofs.run.mill.Goals as goal
 
 pub loop-first-init : goal.loop-first-init
@@ -32,4 +32,5 @@ loop-first-preserved c =
 pub returns : goal.returns
 returns c =
     let all : c.loop-first.first ≡ c.args.frames = omega (arith, c.loop-first.invariant.within) in
-    subst (λ n. AreTotals (all_lines (log_from c.args.frames 0 n)) c.loop-first.totals) all c.loop-first.invariant.so_far
+    all_counted c.args.frames c.loop-first.totals
+    (subst (λ n. AreTotals (all_lines (log_from c.args.frames 0 n)) c.loop-first.totals) all c.loop-first.invariant.so_far)
