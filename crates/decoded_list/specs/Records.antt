@@ -83,6 +83,10 @@ abbrev pub record_of : Place → ℕ → ℕ × Body → Reading
 record_of place micros x =
     record { bus = place.bus; number = x.0; version = place.version; micros = micros; body = x.1 }
 
+-- a line's own record, which has this number
+abbrev pub own_record : Meaning → Place → ℕ → LogLine → Reading
+own_record meaning place number l = record_of place (stamp_of l) (number, own_body meaning l)
+
 -- the records of a line after these, numbered from this number on
 abbrev pub records_at : Meaning → Kind → Place → List LogLine → ℕ → LogLine → List Reading
 records_at meaning k place before number l =

@@ -19,8 +19,8 @@ ghost use Rattle.std.specs.Prelude.{
 ghost use Rattle.bench_model.specs.Check.{IsValid};
 ghost use Rattle.bench_model.specs.Meaning.{bench_meaning};
 ghost use Rattle.candump_log.specs.declared.log_line.LogLine.{LogLine};
-ghost use Rattle.decoded_list.specs.Records.{Meaning, stamp_of, heard_at, brought_on, records_at};
-ghost use Rattle.decoded_list.specs.RecordsView.{record_list, IsFrame, BeginsMessage};
+ghost use Rattle.decoded_list.specs.Records.{Meaning, stamp_of, heard_at, brought_on, record_of, own_record, records_at};
+ghost use Rattle.decoded_list.specs.RecordsView.{one_or_none, record_list, IsFrame, BeginsMessage};
 ghost use Rattle.decoded_list.specs.Asking.{IsSaidOf, IsSaidOfMessage};
 ghost use Rattle.decoded_list.specs.Listening.{Listens, HasTaken};
 
@@ -183,37 +183,50 @@ impl BusDecoder {
         ensures unnumbered { OnErr result (self.new ≡ self.old) }
         ensures frame { OnErr result (IsFrame line.now) }
     {
-        let micros = stamp_of(line);
-        let own = own_body(self.alloc, line, said)?;
-        let own = self.number(version, micros, own);
-        Ok(Records {
-            own,
-            transported: match transport_body(self.alloc, brought, whole) {
-                Some(body) => Some(self.number(version, micros, body)),
-                None => None,
-            },
-        })
+        let body = own_body(self.alloc, line, said)?;
+        let own = self.reading(version, line, body);
+        let transported = self.transported(version, line, brought, whole);
+        Ok(Records { own, transported })
     }
 
-    /// The next record.
-    fn number(&mut self, version: u32, micros: u64, body: Body) -> Reading
-        requires { self.old.next + 1 < 2 ^ 64 }
-        ensures record { result ≡ record {
-          bus = self.old.bus;
-          number = self.old.next;
-          version = version;
-          micros = micros;
-          body = body;
-        } }
-        ensures next { self.new ≡ record self.old { next = self.old.next + 1 } }
+    /// Counts a line's own record, which is not made, and gives the record of what the transport protocol brought at the
+    /// line, where `brought` is that and `whole` what the databases say to it. So a caller may print the own record
+    /// without making it.
+    pub fn transported(
+        &mut self,
+        version: u32,
+        line: &LogLine,
+        brought: TpOut,
+        whole: Option<Plain>,
+    ) -> Option<Reading>
+        requires room { self.old.next + 2 < 2 ^ 64 }
+        ensures records { (meaning : Meaning) (before : List LogLine) → brought ≡ brought_on self.old.kind before line.now
+            → IsSaidOfMessage meaning brought whole
+            → own_record meaning (record { bus = self.old.bus; version = version }) self.old.next line.now
+            ∷ one_or_none result ≡ records_at meaning self.old.kind
+            (record { bus = self.old.bus; version = version }) before self.old.next line.now }
+        ensures next { self.new.next ≡ self.old.next + (1 + length (one_or_none result)) }
+        ensures same { self.new ≡ record self.old { next = self.new.next } }
     {
-        let number = self.next;
         self.next += 1;
+        let Some(body) = transport_body(self.alloc, brought, whole) else {
+            return None;
+        };
+        let reading = self.reading(version, line, body);
+        self.next += 1;
+        Some(reading)
+    }
+
+    /// The next record of a line, which is not counted yet.
+    fn reading(&self, version: u32, line: &LogLine, body: Body) -> Reading
+        ensures { result ≡ record_of (record { bus = self.now.bus; version = version }) (stamp_of line.now)
+            (self.now.next, body) }
+    {
         Reading {
             bus: self.bus,
-            number,
+            number: self.next,
             version,
-            micros,
+            micros: stamp_of(line),
             body,
         }
     }
