@@ -2,7 +2,7 @@
 //!
 //! `candump_log` says what a line is, `j1939_tp` which messages of several packets the frames make, and `bench_model`
 //! what bytes mean; here is the one definition of the list that they give together, and the plain step that gives the
-//! records of one line. `bus_text` takes a step a line, and faster decoders are to be held to it.
+//! records of one line. `bus_text` takes the halves of a step, and asks words that encode a bench.
 //!
 //! Main theorem: whatever lines came before, `BusDecoder::step` gives exactly the records of the next line in the
 //! decoded list, its own and on a J1939 bus that of the message which its frame completes or breaks off, unless memory
