@@ -1,10 +1,10 @@
 -- Files of pairs that were asked for and then one more, and what is left of a library whose files are all there.
-use Rattle.std.proofs.Common.{◌≡◌, ℕ, zero, suc, ◌+◌, ◌<◌, ◌≤◌, List, [], ◌∷◌, ◌++◌, length, map, get_or, take, drop, refl, sym, ap, subst, ◌∙◌, arith, add-one}
-use Rattle.std.specs.Prelude.{Option, Some, None, All, IsSome, IfSome}
-use Rattle.std.specs.List.{AllZip}
+use Rattle.std.proofs.Common.{◌≡◌, ℕ, ◌+◌, ◌<◌, ◌≤◌, true, false, cond, List, [], ◌∷◌, ◌++◌, length, get_or, take, drop, refl, sym, ap, subst, ◌∙◌, arith, add-one}
+use Rattle.std.specs.Prelude.{Option, Some, None, All, IsSome, IfSome, is_some}
 use Rattle.std.proofs.lemmas.List.{take-append-drop, length-append, map-append}
 use Rattle.std.proofs.Math.ListN.{get_or-append}
 use Rattle.std.proofs.Math.Seq.{take-suc}
+use Rattle.port_io.specs.Causes.{raised}
 use Rattle.port_io.specs.Library.{named, strays_after}
 use Rattle.bench_inputs.specs.declared.database_file.DatabaseFile.{DatabaseFile}
 use Rattle.bench_inputs.specs.Asking.{Files, LibraryState, strays_over, Asks, AsksFirst}
@@ -16,6 +16,16 @@ use Rattle.bench_loader.proofs.ZipLaws.{AllZip-snoc}
 strays-append : (files : Option Files) (names more : List (List ℕ)) (n : ℕ) → strays_over files (names ++ more) n ≡ strays_over files more (strays_over files names n)
 strays-append files [] more n = refl
 strays-append files (name ∷ names) more n = strays-append files names more (strays_after files name n)
+
+-- the number of stray calls does not fall
+one_rises : (files : Files) (name : List ℕ) (n : ℕ) → n ≤ strays_after (Some files) name n
+one_rises files name n = elim (is_some (named files name)) as (λ b. n ≤ cond b n (raised n)) [ true ↦ omega arith | false ↦ omega arith ]
+
+pub strays_rise : (files : Option Files) (names : List (List ℕ)) (n : ℕ) → n ≤ strays_over files names n
+strays_rise files [] n = omega arith
+strays_rise None (name ∷ names) n = strays_rise None names n
+strays_rise (Some files) (name ∷ names) n =
+    omega (arith, one_rises files name n, strays_rise (Some files) names (strays_after (Some files) name n))
 
 pub asks_none : (s : LibraryState) → Asks s [] s
 asks_none s = record { files = refl; opens = omega arith; reads = omega arith; strays = refl }
@@ -55,7 +65,7 @@ asks_first before was now pairs i pair within is a b = record {
   calls = asks_next before was now pairs i pair within is a b;
 }
 
--- names at the front of names that are all there
+-- the first names of names that are all there
 pub front_there : (files : Files) (asked unasked names : List (List ℕ)) → asked ++ unasked ≡ names → All (λ name. IsSome (named files name)) names → All (λ name. IsSome (named files name)) asked
 front_there files asked unasked names parted there = λ k d within.
     let inside : k < length names = omega (arith, length-append asked unasked, ap length parted) in

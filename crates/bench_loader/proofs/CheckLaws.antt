@@ -76,8 +76,8 @@ checks_as before now name (Err f) why h checks = rw h checks
 module _ (before now : LibraryState) (name : List ℕ) (asks : Asks before (name ∷ []) now) where
   kept_strays : IfSome before.files (λ files. IsSome (named files name) → now.strays ≡ before.strays)
   kept_strays = go before.files asks.strays where
-    go : (told : Option Files) → now.strays ≡ strays_over told (name ∷ []) before.strays
-        → IfSome told (λ files. IsSome (named files name) → now.strays ≡ before.strays)
+    go : (known : Option Files) → now.strays ≡ strays_over known (name ∷ []) before.strays
+        → IfSome known (λ files. IsSome (named files name) → now.strays ≡ before.strays)
     go None e = tt
     go (Some files) e = λ there. rw there at e
 
@@ -96,14 +96,14 @@ module _ (before now : LibraryState) (name : List ℕ) (asks : Asks before (name
     strays = kept_strays;
   }
 
-  held_of : (told : Option Files) (file : DatabaseFile) (d : Database) → IfSome told (λ files. HasDatabase files name file)
-      → Holds (kind_of_name name) file d → IfSome told (λ files. HoldsNamed files name d)
+  held_of : (known : Option Files) (file : DatabaseFile) (d : Database) → IfSome known (λ files. HasDatabase files name file)
+      → Holds (kind_of_name name) file d → IfSome known (λ files. HoldsNamed files name d)
   held_of None file d has holds = tt
   held_of (Some files) file d has holds = record { file = file; is_there = has; holds = holds }
 
-  refusal_of : (told : Option Files) (file : DatabaseFile) (f : DatabaseFault)
-      → IfSome told (λ files. HasDatabase files name file) → IsRefused (kind_of_name name) file f
-      → IfSome told (λ files. IsRefusedNamed files name f)
+  refusal_of : (known : Option Files) (file : DatabaseFile) (f : DatabaseFault)
+      → IfSome known (λ files. HasDatabase files name file) → IsRefused (kind_of_name name) file f
+      → IfSome known (λ files. IsRefusedNamed files name f)
   refusal_of None file f has fails = tt
   refusal_of (Some files) file f has fails = record { file = file; is_there = has; refused = fails }
 

@@ -1,5 +1,5 @@
 -- A command is answered by what its two halves answer.
-use Rattle.std.proofs.Common.{◌≡◌, ℕ, ◌+◌, ◌<◌, ◌≤◌, List, Result, Ok, Err, refl, sym, ap, subst, ◌∙◌}
+use Rattle.std.proofs.Common.{◌≡◌, ℕ, ◌≤◌, List, Result, Ok, Err, refl, sym, ap, subst, ◌∙◌}
 use Rattle.std.specs.Prelude.{IsErrAnd}
 use Rattle.bench_model.specs.declared.database.Bench.{Bench}
 use Rattle.image_words.specs.Image.{Encodes}
@@ -7,10 +7,10 @@ use Rattle.image_compiler.specs.Size.{image_size}
 use Rattle.bench_inputs.specs.Asking.{LibraryState}
 use Rattle.bench_loader.specs.declared.reply.Reply.{Reply}
 use Rattle.bench_loader.specs.declared.reply.Reply.TheVariants as replies
-use Rattle.bench_loader.specs.NextBench.{IsNextBench, IsFitting, IsTooLarge}
-use Rattle.bench_loader.specs.Due.{Limits, Due}
-use Rattle.bench_loader.specs.Commands.{LoaderState, version_in, KeepsLibrary, HasCause, IsAccepted, Leaves, Answers}
-use Rattle.bench_loader.specs.CommandView.{IsEarly, IsEarlyReply, FindsNext, IsPut, PutsBench, reply_of}
+use Rattle.bench_loader.specs.NextBench.{IsNextBench, IsFitting}
+use Rattle.bench_loader.specs.Due.{Limits}
+use Rattle.bench_loader.specs.Commands.{LoaderState, version_in, HasCause, IsAccepted, Leaves, Answers}
+use Rattle.bench_loader.specs.CommandView.{IsEarly, FindsNext, IsPut, PutsBench, reply_of}
 
 leaves_same : (library : LibraryState) (before : LoaderState) (line : List ℕ) (reply : Reply) → IsEarly reply → Leaves library before line reply before
 leaves_same library before line (replies.Ok version) early = absurd early
@@ -41,7 +41,13 @@ module _ (limits : Limits) (library now : LibraryState) (before : LoaderState) (
   accepted version after put =
       let P : Bench → Type 0 = λ b. IsNextBench library.files before.bench line b in
       let Q : Bench → Type 0 = λ b. Encodes put.image b in
-      record { next = subst P (sym put.bench) is_next; image = put.image; encodes = subst Q (sym put.bench) put.encodes; published = put.published }
+      record {
+        next = subst P (sym put.bench) is_next;
+        image = put.image;
+        encodes = subst Q (sym put.bench) put.encodes;
+        size = put.size ∙ ap image_size (sym put.bench);
+        published = put.published;
+      }
 
   cause_of : (r : Result ℕ Reply) (after : LoaderState) → PutsBench limits before next r after → HasCause limits library now before.bench (version_in before) line (reply_of r)
   cause_of (Ok version) after puts = (fitting puts.0, puts.1, puts.2)

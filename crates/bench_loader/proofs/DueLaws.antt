@@ -1,5 +1,5 @@
 -- At most one reply is due to a line, where the library's files are known.
-use Rattle.std.proofs.Common.{◌≡◌, ◌≢◌, ℕ, zero, suc, ◌+◌, ◌<◌, ◌≤◌, Bool, true, false, List, [], ◌∷◌, ◌++◌, length, map, get_or, Option, Some, None, cond, refl, sym, ap, subst, ◌∙◌, arith, inl, inr}
+use Rattle.std.proofs.Common.{◌≡◌, ℕ, zero, suc, ◌+◌, Bool, List, [], ◌∷◌, ◌++◌, length, map, Option, Some, None, refl, sym, ap, subst, ◌∙◌, arith, inl, inr}
 use Rattle.std.specs.Prelude.{◌⊎◌, ◌==◌, zip, find, slice_get}
 use Rattle.std.specs.List.{AllZip, enumerate_from}
 use Rattle.std.proofs.lemmas.Bool.{cases_Bool}
@@ -7,7 +7,7 @@ use Rattle.std.proofs.lemmas.List.{append-nil}
 use Rattle.std.proofs.lemmas.Option.{slice_get_cases}
 use Rattle.port_io.specs.Library.{named}
 use Rattle.decisions.specs.Decisions.{Decides}
-use Rattle.decisions.specs.ListDecisions.{FirstFails, FirstFailsAt, FirstFailsFor, decides_list, decides_first}
+use Rattle.decisions.specs.ListDecisions.{FirstFails, FirstFailsFor, decides_list, decides_first}
 use Rattle.bench_model.specs.declared.database.Kind.{Kind}
 use Rattle.bench_model.specs.declared.database.Database.{Database}
 use Rattle.bench_model.specs.declared.database.Bus.{Bus}
@@ -24,7 +24,7 @@ use Rattle.bench_loader.specs.declared.targets.Target.{Target}
 use Rattle.bench_loader.specs.declared.reply.Reply.{Reply}
 use Rattle.bench_loader.specs.declared.reply.Reply.TheVariants as replies
 use Rattle.bench_loader.specs.Judging.{Holds, IsRefused}
-use Rattle.bench_loader.specs.LoadLine.{words_of_pairs, IsLoad, IsOtherForm}
+use Rattle.bench_loader.specs.LoadLine.{words_of_pairs, IsLoad}
 use Rattle.bench_loader.specs.Targets.{place_of_bus, IsTarget, IsUnknown, NamesBuses, NamesNoBus}
 use Rattle.bench_loader.specs.NextBench.{file_names, IsChange, IsRefusedChange, NamesFiles, IsRefusedLoad, IsNextBench, IsTooLarge, IsFitting}
 use Rattle.bench_loader.specs.Due.{Limits, Due}

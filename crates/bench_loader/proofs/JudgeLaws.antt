@@ -1,4 +1,4 @@
--- Buses judged so far and one more are judged, and the first file that is refused stands behind buses that are there.
+-- Buses judged so far and one more are judged, and a file that is refused behind buses that are there is the first one.
 use Rattle.std.proofs.Common.{◌≡◌, ℕ, ◌+◌, ◌<◌, ◌≤◌, List, [], ◌∷◌, ◌++◌, length, get_or, take, Err, sym, ap, subst, ◌∙◌, arith, add-one}
 use Rattle.std.specs.Prelude.{All, zip}
 use Rattle.std.specs.List.{AllZip}
@@ -14,7 +14,7 @@ use Rattle.bench_loader.specs.Judging.{IsBusOf, IsRefusedOnBus, IsFirstRefused}
 use Rattle.bench_loader.specs.declared.fault.JudgeRefused.{JudgeRefused}
 use Rattle.bench_loader.specs.declared.fault.JudgeRefused.TheVariants as refused
 use Rattle.bench_loader.proofs.ZipLaws.{AllZip-snoc, length-zip, pair_at, first_fails}
-use Rattle.bench_loader.specs.JudgeView.{IsJudged, IsJudgedBench, JudgesBus, JudgesBench, refused_at}
+use Rattle.bench_loader.specs.JudgeView.{IsJudged, IsJudgedBench, JudgesBus, JudgesBench, refusal_of_bus}
 
 -- the buses of the first so many pairs, each with a valid database
 pub record Judged (planned : List (PlannedBus × DatabaseFile)) (i : ℕ) (buses : List Bus) : Type 0 where
@@ -55,6 +55,6 @@ judged_stops buses files i bus file judged fault same within is is' before refus
 
 pub judged_refuses : (buses : List PlannedBus) (files : List DatabaseFile) (i : ℕ) (bus : PlannedBus) (file : DatabaseFile) (judged : List Bus) (why : JudgeRefused) → length buses ≡ length files
     → i < length buses → bus ≡ get_or buses i bus → file ≡ get_or files i file → Judged (zip buses files) i judged
-    → JudgesBus (bus, file) (Err why) → JudgesBench (zip buses files) (Err (refused_at i why))
+    → JudgesBus (bus, file) (Err why) → JudgesBench (zip buses files) (Err (refusal_of_bus i why))
 judged_refuses buses files i bus file judged (refused.Fault fault) same within is is' before h = judged_stops buses files i bus file judged fault same within is is' before h
 judged_refuses buses files i bus file judged refused.Memory same within is is' before h = tt

@@ -14,5 +14,6 @@ pub mod CommandLaws
 pub mod DueLaws
 pub mod SomeDueLaws
 pub mod RunLaws
+pub mod KeptLaws
 pub mod ReplyLaws
 pub mod TestLaws

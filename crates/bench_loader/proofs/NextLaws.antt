@@ -1,5 +1,5 @@
 -- What each stage of a command answers is an answer to the command.
-use Rattle.std.proofs.Common.{◌≡◌, ℕ, zero, suc, ◌+◌, ◌<◌, ◌≤◌, List, [], ◌∷◌, ◌++◌, length, map, get_or, Result, Ok, Err, refl, sym, ap, subst, ◌∙◌, arith}
+use Rattle.std.proofs.Common.{◌≡◌, ℕ, zero, suc, ◌<◌, List, [], ◌∷◌, ◌++◌, length, get_or, Result, Ok, Err, refl, sym, subst, ◌∙◌, arith}
 use Rattle.std.specs.Prelude.{Option, Some, None, All, IsSome, IfSome, IsErrAnd, zip, Vec}
 use Rattle.std.specs.declared.alloc.Global.{Global}
 use Rattle.std.specs.List.{AllZip}
@@ -8,7 +8,6 @@ use Rattle.port_io.specs.Library.{named}
 use Rattle.bench_model.specs.declared.database.Bus.{Bus}
 use Rattle.bench_model.specs.declared.database.Bench.{Bench}
 use Rattle.bench_model.specs.declared.replace.Change.{Change}
-use Rattle.bench_model.specs.ValidBench.{IsValidBench}
 use Rattle.bench_model.specs.Replaced.{bench_after}
 use Rattle.bench_inputs.specs.declared.database_file.DatabaseFile.{DatabaseFile}
 use Rattle.bench_inputs.specs.Asking.{Files, LibraryState, strays_over, Asks, AsksFirst}
@@ -24,15 +23,15 @@ use Rattle.bench_loader.specs.declared.load_files.Unread.{Unread}
 use Rattle.bench_loader.specs.declared.load_files.Unread.TheVariants as unread
 use Rattle.bench_loader.specs.declared.reply.Reply.{Reply}
 use Rattle.bench_loader.specs.declared.reply.Reply.TheVariants as replies
-use Rattle.bench_loader.specs.LoadLine.{IsLoad, IsOtherForm}
-use Rattle.bench_loader.specs.Targets.{IsTarget, IsUnknown, NamesBuses, NamesNoBus}
-use Rattle.bench_loader.specs.NextBench.{file_names, AreFiles, IsChange, IsRefusedChange, NamesFiles, IsRefusedLoad, IsNextBench}
-use Rattle.bench_loader.specs.Commands.{HasAllFiles, KeepsLibrary, HasCause, NamesBus}
+use Rattle.bench_loader.specs.LoadLine.{IsLoad}
+use Rattle.bench_loader.specs.Targets.{NamesBuses, NamesNoBus}
+use Rattle.bench_loader.specs.NextBench.{file_names, AreFiles, IsChange, NamesFiles, IsRefusedLoad, IsNextBench}
+use Rattle.bench_loader.specs.Commands.{HasAllFiles, KeepsLibrary, NamesBus}
 use Rattle.bench_loader.specs.LineView.{ReadsLoad}
-use Rattle.bench_loader.specs.LoadView.{FindsTargets, ReadsAllFiles, StopsAtFile, ReadsFiles, JudgesFiles}
+use Rattle.bench_loader.specs.LoadView.{FindsTargets, StopsAtFile, ReadsFiles, JudgesFiles}
 use Rattle.bench_loader.specs.ReplyView.{reply_of_line, reply_of_bus, reply_of_file, reply_of_bench}
-use Rattle.bench_loader.specs.CommandView.{IsEarly, IsEarlyReply, AnswersNext, FindsNext}
-use Rattle.bench_loader.proofs.AskLaws.{front_there}
+use Rattle.bench_loader.specs.CommandView.{IsEarlyReply, FindsNext}
+use Rattle.bench_loader.proofs.AskLaws.{front_there, strays_rise}
 
 -- calls for names that are all there count no strays, as the law of the inputs says
 abbrev pub CountsNone : Type 0
@@ -62,7 +61,7 @@ some_same None bench line n = tt
 some_same (Some fs) bench line n = λ all. refl
 
 pub keeps_same : (s : LibraryState) (bench : Bench) (line : List ℕ) → KeepsLibrary bench line s s
-keeps_same s bench line = record { files = refl; opens = omega arith; reads = omega arith; strays = some_same s.files bench line s.strays }
+keeps_same s bench line = record { files = refl; opens = omega arith; reads = omega arith; rises = omega arith; strays = some_same s.files bench line s.strays }
 
 -- and where the first files of the line were asked for
 pub keeps_asked : (L : CountsNone) (before now : LibraryState) (bench : Bench) (line : List ℕ) (pairs : List Pair) (targets : List Target) → NamesBuses bench.buses line pairs targets
@@ -71,6 +70,7 @@ keeps_asked L before now bench line pairs targets names asks = record {
   files = asks.calls.files;
   opens = asks.calls.opens;
   reads = asks.calls.reads;
+  rises = omega (arith, asks.calls.strays, strays_rise before.files asks.asked before.strays);
   strays = weaker before.files bench line pairs targets before.strays now.strays names
       (strays_kept L before.files asks.asked (file_names pairs) asks.unasked before.strays now.strays asks.parted asks.calls.strays);
 }
@@ -115,20 +115,22 @@ file_early before now bench line pairs targets unread.Memory names stops = memor
 
 -- a file is refused
 pub fault_early : (before now : LibraryState) (bench : Bench) (line : List ℕ) (pairs : List Pair) (targets : List Target) (read : List DatabaseFile) (why : BenchRefused)
-    → NamesBuses bench.buses line pairs targets → AreFiles before.files pairs read → JudgesFiles (zip targets read) (Err why) → IsEarlyReply before now bench line (reply_of_bench why)
-fault_early before now bench line pairs targets read (benches.Refused bus fault) names are first =
-    let named : NamesFiles before.files bench line targets read = record { pairs = pairs; names = names; are_files = are } in
+    → NamesBuses bench.buses line pairs targets → length read ≡ length pairs → AreFiles before.files pairs read → JudgesFiles (zip targets read) (Err why)
+    → IsEarlyReply before now bench line (reply_of_bench why)
+fault_early before now bench line pairs targets read (benches.Refused bus fault) names count are first =
+    let named : NamesFiles before.files bench line targets read = record { pairs = pairs; names = names; count = count; are_files = are } in
     let refused : IsRefusedLoad before.files bench line (bus, fault) = record { targets = targets; read = read; names = named; first = first } in
     record { early = tt; cause = λ limits version. refused }
-fault_early before now bench line pairs targets read benches.Memory names are first = memory_early before now bench line
+fault_early before now bench line pairs targets read benches.Memory names count are first = memory_early before now bench line
 
 -- the next bench
 pub is_next : (files : Option Files) (bench : Bench) (line : List ℕ) (pairs : List Pair) (targets : List Target) (read : List DatabaseFile) (changes : List Change) (next : Bench)
-    → NamesBuses bench.buses line pairs targets → AreFiles files pairs read → AllZip IsChange (zip targets read) changes → next ≡ bench_after bench changes → IsNextBench files bench line next
-is_next files bench line pairs targets read changes next names are each after = record {
+    → NamesBuses bench.buses line pairs targets → length read ≡ length pairs → AreFiles files pairs read → AllZip IsChange (zip targets read) changes → next ≡ bench_after bench changes
+    → IsNextBench files bench line next
+is_next files bench line pairs targets read changes next names count are each after = record {
   targets = targets;
   read = read;
-  names = record { pairs = pairs; names = names; are_files = are };
+  names = record { pairs = pairs; names = names; count = count; are_files = are };
   changes = changes;
   each = each;
   after = after;

@@ -1,6 +1,5 @@
 -- What the store answers to the image of the next bench, and the loader after it.
-use Rattle.std.proofs.Common.{◌≡◌, ◌≢◌, ℕ, zero, suc, ◌+◌, ◌<◌, ◌≤◌, List, [], ◌∷◌, ◌++◌, length, map, get_or, Result, Ok, Err, refl, sym, ap, subst, ◌∙◌, arith}
-use Rattle.std.specs.Prelude.{IsErrAnd}
+use Rattle.std.proofs.Common.{◌≡◌, ℕ, ◌+◌, List, [], ◌∷◌, ◌++◌, length, map, get_or, refl, sym, ap, subst, ◌∙◌}
 use Rattle.std.specs.List.{enumerate_from}
 use Rattle.std.proofs.lemmas.List.{length-append}
 use Rattle.std.proofs.Math.Seq.{get_or-append_seam}
@@ -11,7 +10,6 @@ use Rattle.bench_model.specs.declared.replace.Change.{Change}
 use Rattle.bench_model.specs.ValidBench.{IsValidBench}
 use Rattle.bench_model.specs.Replaced.{bus_after, bench_after}
 use Rattle.image_words.specs.Image.{Encodes}
-use Rattle.image_compiler.specs.Size.{image_size}
 use Rattle.region_store.specs.declared.store.Store.{Store}
 use Rattle.region_store.specs.declared.loader.LoaderSeat.{LoaderSeat}
 use Rattle.region_store.specs.declared.loader.Holder.{Holder}
@@ -21,9 +19,8 @@ use Rattle.region_store.specs.Ends.{shape_of, first_of}
 use Rattle.region_store.specs.LoaderEnd.{IsLoaderOf, view_of_loader}
 use Rattle.region_store.specs.Publishing.{IsPublished, IsBusy}
 use Rattle.bench_loader.specs.declared.loader.Loader.{Loader}
-use Rattle.bench_loader.specs.Commands.{LoaderState, images_in, version_in}
-use Rattle.bench_loader.specs.LoaderView.{state_of, limits_of, IsFirst, IsLoaderOn}
-use Rattle.bench_loader.specs.CommandView.{IsPut, PutsBench}
+use Rattle.bench_loader.specs.Commands.{images_in, version_in}
+use Rattle.bench_loader.specs.LoaderView.{state_of, IsFirst, IsLoaderOn}
 
 -- what the law says of a list of words
 abbrev pub OneEncoded : Type 0
@@ -62,7 +59,7 @@ loader_next s l m next image version on bench room own put valid encodes like =
     ap (λ (xs : List (List ℕ)). get_or xs (version_in (state_of m)) []) images ∙ ap (λ k. get_or (images_in (state_of l) ++ image ∷ []) k []) at ∙ get_or-append_seam (images_in (state_of l)) image [] [] in
     record {
       own = own;
-      room = room ∙ on.room;
+      room_is = room ∙ on.room_is;
       count = ap length images ∙ length-append (images_in (state_of l)) (image ∷ []) ∙ ap (λ n. n + 1) (sym at);
       valid = subst IsValidBench (sym bench) valid;
       encodes = (let P : List ℕ → Type 0 = λ x. Encodes x m.bench in subst P (sym last) (let Q : Bench → Type 0 = λ b. Encodes image b in subst Q (sym bench) encodes));
@@ -80,7 +77,7 @@ loader_same s l m on bench room own images version =
     let R : List ℕ → Type 0 = λ x. IsLike (first_of s) x in
     record {
       own = own;
-      room = room ∙ on.room;
+      room_is = room ∙ on.room_is;
       count = ap length images ∙ on.count ∙ ap (λ n. n + 1) (sym version);
       valid = subst IsValidBench (sym bench) on.valid;
       encodes = subst P (sym last) (subst Q (sym bench) on.encodes);
@@ -118,7 +115,7 @@ loader_first s l bench seat room image kept first rooms valid encodes =
     } in
     record {
       own = subst P (sym kept.2) first.own;
-      room = kept.1 ∙ rooms;
+      room_is = kept.1 ∙ rooms;
       count = ap length images ∙ ap (λ n. n + 1) (sym version);
       valid = subst IsValidBench (sym kept.0) valid;
       encodes = subst Q (sym last) (subst T (sym kept.0) encodes);

@@ -1,19 +1,20 @@
 -- Commands one after another: their runs join, what they publish are the benches that they make, and each reply that a file was
 -- not opened or not read has its fault.
-use Rattle.std.proofs.Common.{◌≡◌, ℕ, zero, suc, ◌+◌, ◌-◌, ◌^◌, ◌<◌, ◌≤◌, Bool, true, false, List, [], ◌∷◌, ◌++◌, length, cond, refl, sym, ap, subst, ◌∙◌, arith}
-use Rattle.std.specs.Prelude.{Option, Some, min, filter, slice_get}
+use Rattle.std.proofs.Common.{◌≡◌, ℕ, ◌+◌, ◌-◌, ◌^◌, ◌<◌, ◌≤◌, Bool, true, false, List, [], ◌∷◌, ◌++◌, length, cond, refl, sym, ap, subst, ◌∙◌, arith}
+use Rattle.std.specs.Prelude.{Option, Some, filter, slice_get}
 use Rattle.std.specs.List.{AllZip}
 use Rattle.std.proofs.lemmas.List.{append-nil, append_assoc, length-append}
 use Rattle.port_io.specs.Causes.{Rose}
 use Rattle.bench_model.specs.declared.database.Bench.{Bench}
 use Rattle.image_words.specs.Image.{Encodes}
 use Rattle.region_store.specs.declared.view.View.{View}
-use Rattle.bench_inputs.specs.Asking.{Files, LibraryState}
+use Rattle.bench_inputs.specs.Asking.{Files}
 use Rattle.bench_loader.specs.declared.reply.Reply.{Reply}
 use Rattle.bench_loader.specs.declared.reply.Reply.TheVariants as replies
 use Rattle.bench_loader.specs.Due.{Limits}
-use Rattle.bench_loader.specs.Commands.{LoaderState, images_in, version_in, Answers, Leaves, HasCause}
-use Rattle.bench_loader.specs.Runs.{Answered, Moment, IsAnswered, Runs, AddsBench, Adds, PublishedAfter, Published, is_open, is_read, open_replies, read_replies}
+use Rattle.bench_loader.specs.Commands.{LoaderState, images_in, version_in, Leaves, HasCause}
+use Rattle.bench_loader.specs.Runs.{Answered, Moment, IsAnswered, Runs, AddsBench, PublishedAfter, Published, is_open, is_read, open_replies, read_replies}
+use Rattle.bench_loader.proofs.ZipLaws.{length-all_zip}
 
 -- no command, and commands behind others
 pub runs_join : (limits : Limits) (a b c : Moment) (log more : List Answered) → Runs limits a log b → Runs limits b more c → Runs limits a (log ++ more) c
@@ -113,17 +114,11 @@ AllZip-join R [] zs (y ∷ ys) ws h k = absurd h
 AllZip-join R (x ∷ xs) zs [] ws h k = absurd h
 AllZip-join R (x ∷ xs) zs (y ∷ ys) ws h k = (h.0, AllZip-join R xs zs ys ws h.1 k)
 
-as_many : {A B : Type 0} (R : A → B → Type 0) (xs : List A) (ys : List B) → AllZip R xs ys → length xs ≡ length ys
-as_many R [] [] h = refl
-as_many R [] (y ∷ ys) h = absurd h
-as_many R (x ∷ xs) [] h = absurd h
-as_many R (x ∷ xs) (y ∷ ys) h = omega (arith, as_many R xs ys h.1)
-
 publishes_more : (before next now : Moment) (entry : Answered) (log : List Answered) → next.library.files ≡ before.library.files → AddsOne before entry next → Publishes next log now
     → Publishes before (entry ∷ log) now
 publishes_more before next now entry log files one rest =
     let count : length (images_in next.loader) ≡ length (images_in before.loader) + length one.added =
-    ap length one.published ∙ length-append (images_in before.loader) one.images ∙ ap (λ n. length (images_in before.loader) + n) (as_many Encodes one.images one.added one.encode) in
+    ap length one.published ∙ length-append (images_in before.loader) one.images ∙ ap (λ n. length (images_in before.loader) + n) (sym (length-all_zip Encodes one.images one.added one.encode)) in
     let P : Option Files → Type 0 = λ fs. PublishedAfter fs log (length (images_in next.loader)) next.loader.bench rest.benches in
     let Q : ℕ → Type 0 = λ n. PublishedAfter before.library.files log n next.loader.bench rest.benches in
     record {
@@ -162,7 +157,7 @@ all_published limits before now log first h counted start encodes =
     let R : List (List ℕ) → Type 0 = λ xs. AllZip Encodes xs (before.loader.bench ∷ p.benches) in
     let benches : List Bench = before.loader.bench ∷ p.benches in
     let all : AllZip Encodes (images_in now.loader) benches = subst R (sym images) (encodes, p.encode) in
-    let count : length benches ≡ version_in now.loader + 1 = sym (as_many Encodes (images_in now.loader) benches all) ∙ p.counted in
+    let count : length benches ≡ version_in now.loader + 1 = length-all_zip Encodes (images_in now.loader) benches all ∙ p.counted in
     let place : version_in now.loader ≡ length p.benches = omega (arith, count) in (
       benches,
       (

@@ -1,20 +1,19 @@
 -- A reply is due to each line, unless it is a command that names a file which is missing.
-use Rattle.std.proofs.Common.{◌≡◌, ◌≢◌, ℕ, zero, suc, ◌+◌, ◌<◌, ◌≤◌, Bool, true, false, List, [], ◌∷◌, ◌++◌, length, Option, Some, None, refl, sym, ap, subst, ◌∙◌, arith, inl, inr, ⊎_elim}
+use Rattle.std.proofs.Common.{◌≡◌, ◌≢◌, ℕ, zero, suc, ◌+◌, ◌≤◌, List, [], ◌∷◌, ◌++◌, length, Some, refl, sym, ap, subst, ◌∙◌, arith, inl, inr, ⊎_elim}
 use Rattle.std.specs.Prelude.{◌⊎◌, zip, codes}
 use Rattle.std.specs.List.{AllZip}
 use Rattle.std.specs.Str.{bytes_eq}
 use Rattle.std.proofs.lemmas.Bool.{cases_Bool, cases_eq}
 use Rattle.std.proofs.lemmas.Bool.Decides.{leb_tells}
 use Rattle.std.proofs.lemmas.Slice.Eq.{bytes_eq-Decides}
-use Rattle.std.proofs.lemmas.List.{append-nil, append_assoc}
+use Rattle.std.proofs.lemmas.List.{append-nil, append_assoc, length-map}
 use Rattle.text_words.specs.Words.{words_of}
 use Rattle.port_io.specs.Library.{named}
 use Rattle.decisions.specs.Decisions.{Decides}
-use Rattle.decisions.specs.ListDecisions.{FirstFails, FirstFailsFor, decides_list, decides_first}
+use Rattle.decisions.specs.ListDecisions.{FirstFails, decides_list, decides_first}
 use Rattle.bench_model.specs.declared.database.Kind.{Kind}
 use Rattle.bench_model.specs.declared.database.Kind.TheVariants as kinds
 use Rattle.bench_model.specs.declared.database.Database.{Database}
-use Rattle.bench_model.specs.declared.database.Bus.{Bus}
 use Rattle.bench_model.specs.declared.database.Bench.{Bench}
 use Rattle.bench_model.specs.declared.valid.Valid.{Valid}
 use Rattle.bench_model.specs.declared.replace.Change.{Change}
@@ -35,9 +34,11 @@ use Rattle.bench_loader.specs.LoadLine.{longest_command, most_pairs, words_of_pa
 use Rattle.bench_loader.specs.LineView.{ArePairs}
 use Rattle.bench_loader.specs.Targets.{IsTarget, IsUnknown, NamesBuses}
 use Rattle.bench_loader.specs.NextBench.{file_names, IsChange, IsRefusedChange, NamesFiles, IsNextBench, IsTooLarge, IsFitting}
-use Rattle.bench_loader.specs.Due.{Limits, IsMissing, LacksFile, Due}
+use Rattle.bench_loader.specs.Verdict.{IsMissing}
+use Rattle.bench_loader.specs.Due.{Limits, LacksFile, Due}
 use Rattle.bench_loader.proofs.LineLaws.{has_file, is_named, rules_of_none, keep_pair, breaks_few, breaks_file, breaks_bus, not_load, no_words, too_long, other_pairs, no_pairs, is_load}
 use Rattle.bench_loader.proofs.TestLaws.{empty_valid}
+use Rattle.bench_loader.proofs.ZipLaws.{length-all_zip}
 use Rattle.bench_loader.proofs.DueLaws.{same_pairs, one_load, targets, changes, named_or_unknown, HasFor}
 
 -- ---- whether a line is a command
@@ -176,7 +177,12 @@ module _ (F : (files : Files) → Decides (HasDatabase files) (IsMissing files))
   by_buses : (pairs : List Pair) (ts : List Target) → NamesBuses bench.buses line pairs ts → Answered
   by_buses pairs ts names =
       elim ((decides_first (HasDatabase fs) (IsMissing fs) (F fs)).some (file_names pairs)) as (λ _. Answered) [
-        | inl found ↦ by_files ts found.0 (record { pairs = pairs; names = names; are_files = found.1 })
+        | inl found ↦ by_files ts found.0 (record {
+          pairs = pairs;
+          names = names;
+          count = length-all_zip (HasDatabase fs) (file_names pairs) found.0 found.1 ∙ length-map pairs (λ (p : Pair). p.file);
+          are_files = found.1;
+        })
         | inr lacks ↦ inr (record { pairs = pairs; targets = ts; names = names; missing = lacks.1 })
       ]
 

@@ -1,10 +1,9 @@
 -- The loops of a command's stages: what is found, read and judged so far and one more, and what stops a stage.
-use Rattle.std.proofs.Common.{◌≡◌, ℕ, ◌+◌, ◌<◌, ◌≤◌, List, [], ◌∷◌, ◌++◌, length, map, get_or, take, Result, Ok, Err, Option, Some, None, refl, sym, ap, subst, ◌∙◌, arith}
+use Rattle.std.proofs.Common.{◌≡◌, ℕ, ◌+◌, ◌<◌, ◌≤◌, List, [], ◌∷◌, ◌++◌, length, get_or, take, Result, Ok, Err, Option, None, refl, sym, ap, subst, ◌∙◌, arith}
 use Rattle.std.specs.Prelude.{zip, IfSome, IsErrAnd, Vec}
 use Rattle.std.specs.declared.alloc.Global.{Global}
-use Rattle.std.specs.List.{AllZip, IsAmong}
+use Rattle.std.specs.List.{AllZip}
 use Rattle.std.proofs.lemmas.List.{take_all, length-append, length-map, get_or-map}
-use Rattle.port_io.specs.Causes.{Rose}
 use Rattle.bench_model.specs.declared.database.Bus.{Bus}
 use Rattle.bench_model.specs.declared.valid.Valid.{Valid}
 use Rattle.bench_model.specs.declared.replace.Change.{Change}
@@ -21,7 +20,7 @@ use Rattle.bench_loader.specs.declared.load_files.Unread.{Unread}
 use Rattle.bench_loader.specs.declared.load_files.Unread.TheVariants as unread
 use Rattle.bench_loader.specs.declared.load_line.Pair.{Pair}
 use Rattle.bench_loader.specs.declared.targets.Target.{Target}
-use Rattle.bench_loader.specs.JudgeView.{JudgesFile, refused_at}
+use Rattle.bench_loader.specs.JudgeView.{JudgesFile, refusal_of_bus}
 use Rattle.bench_loader.specs.Targets.{place_of_bus, places_of, IsTarget, IsUnknown}
 use Rattle.bench_loader.specs.NextBench.{file_names, AreFiles, IsChange, IsRefusedChange}
 use Rattle.bench_loader.specs.LoadView.{IsUnreadCause, ReadsAllFiles, StopsAtFile, ReadsFiles, JudgesFiles, unread_of}
@@ -110,7 +109,7 @@ change_all targets files i changes same end made = rw (take_all i (zip targets f
 
 pub change_stops : (targets : List Target) (files : List DatabaseFile) (i : ℕ) (target : Target) (file : DatabaseFile) (changes : List Change) (why : JudgeRefused) → length targets ≡ length files
     → i < length targets → target ≡ get_or targets i target → file ≡ get_or files i file → AllZip IsChange (take i (zip targets files)) changes → JudgesFile target.kind file (Err why)
-    → JudgesFiles (zip targets files) (Err (refused_at target.bus why))
+    → JudgesFiles (zip targets files) (Err (refusal_of_bus target.bus why))
 change_stops targets files i target file changes (refused.Fault fault) same within is is' made h =
     let here : Target × DatabaseFile = (target, file) in
     let why : ℕ × DatabaseFault = (target.bus, fault) in

@@ -1,5 +1,5 @@
--- Two lists place by place: one more of each, what stands at a place, and the first that fails behind those that do not.
-use Rattle.std.proofs.Common.{◌≡◌, ℕ, zero, suc, ◌+◌, ◌<◌, ◌≤◌, List, [], ◌∷◌, ◌++◌, length, get_or, take, refl, sym, ap, subst, ◌∙◌, arith, add-one}
+-- Two lists place by place: one more of each, what is at a place, and the first that fails behind those that do not.
+use Rattle.std.proofs.Common.{◌≡◌, ℕ, zero, suc, ◌+◌, ◌<◌, ◌≤◌, List, [], ◌∷◌, ◌++◌, length, get_or, take, refl, sym, ap, ◌∙◌, arith, add-one}
 use Rattle.std.specs.Prelude.{zip}
 use Rattle.std.specs.List.{AllZip}
 use Rattle.std.proofs.lemmas.List.{take_all}
@@ -34,7 +34,7 @@ length-zip (x ∷ xs) (y ∷ ys) same = omega (arith, length-zip xs ys (omega ar
 pair_is : {A B : Type 0} (a c : A) (b e : B) → a ≡ c → b ≡ e → (let p : A × B = (a, b) in let q : A × B = (c, e) in p ≡ q)
 pair_is a c b e p q = cc
 
--- what stands at this place of the pairs
+-- what is at this place of the pairs
 pub pair_at : {A B : Type 0} (xs : List A) (ys : List B) (i : ℕ) (x : A) (y : B) → length xs ≡ length ys → i < length xs
     → x ≡ get_or xs i x → y ≡ get_or ys i y → (let here : A × B = (x, y) in get_or (zip xs ys) i here ≡ here)
 pair_at xs ys i x y same within is is' =

@@ -1,5 +1,5 @@
 -- What the two halves of a command answer: the next bench is made of the files, and then it is published.
-use Rattle.std.specs.Prelude.{◌≡◌, ◌≢◌, ◌<◌, ◌≤◌, ℕ, ◌+◌, List, Result, Ok, Err}
+use Rattle.std.specs.Prelude.{◌≡◌, ◌≢◌, ◌<◌, ◌≤◌, ℕ, ◌+◌, List, length, Result, Ok, Err}
 use Rattle.bench_model.specs.declared.database.Bench.{Bench}
 use Rattle.bench_model.specs.ValidBench.{IsValidBench}
 use Rattle.image_words.specs.Image.{Encodes}
@@ -37,6 +37,7 @@ pub record IsPut (before : LoaderState) (next : Bench) (version : ℕ) (now : Lo
   pub bench : now.bench ≡ next
   pub image : List ℕ
   pub encodes : Encodes image next
+  pub size : length image ≡ image_size next
   pub published : IsPublished image version before.view now.view
 
 abbrev pub PutsBench : Limits → LoaderState → Bench → Result ℕ Reply → LoaderState → Type 0

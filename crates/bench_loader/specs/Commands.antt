@@ -1,10 +1,11 @@
 -- What commands do to a loader: one command, many in a row, and the benches that are published.
-use Rattle.std.specs.Prelude.{◌≡◌, ℕ, ◌+◌, ◌≤◌, List, [], ◌∷◌, ◌++◌, length, IsSome, IfSome, All}
-use Rattle.std.specs.List.{AllZip, IsAmong}
+use Rattle.std.specs.Prelude.{◌≡◌, ℕ, ◌+◌, ◌≤◌, List, length, IsSome, IfSome, All}
+use Rattle.std.specs.List.{IsAmong}
 use Rattle.port_io.specs.Causes.{Rose}
 use Rattle.port_io.specs.Library.{named}
 use Rattle.bench_model.specs.declared.database.Bench.{Bench}
 use Rattle.image_words.specs.Image.{Encodes}
+use Rattle.image_compiler.specs.Size.{image_size}
 use Rattle.region_store.specs.declared.view.Did.{Did}
 use Rattle.region_store.specs.declared.view.View.{View}
 use Rattle.region_store.specs.Publishing.{IsPublished, IsBusy}
@@ -43,12 +44,13 @@ abbrev pub HasAllFiles : Files → Bench → List ℕ → Type 0
 HasAllFiles files bench line = (pairs : List Pair) (targets : List Target) → NamesBuses bench.buses line pairs targets
     → All (λ (p : Pair). IsSome (named files p.file)) pairs
 
--- What a command leaves of the library: its files stay, no count of faults falls, and where all files that the line names are
--- there, nothing was asked for in vain.
+-- What a command leaves of the library: its files stay, no count falls, and where all files that the line names are there,
+-- nothing was asked for in vain (`strays` counts the calls for files that are not there).
 pub record KeepsLibrary (bench : Bench) (line : List ℕ) (before now : LibraryState) : Type 0 where
   pub files : now.files ≡ before.files
   pub opens : before.open_faults ≤ now.open_faults
   pub reads : before.more_faults ≤ now.more_faults
+  pub rises : before.strays ≤ now.strays
   pub strays : IfSome before.files (λ files. HasAllFiles files bench line → now.strays ≡ before.strays)
 
 -- Why a command is answered so: the answer is due; or a file of the line was not opened or not read, and that count of the
@@ -71,11 +73,13 @@ IsFromOutside (replies.Busy holders) = Unit {0}
 IsFromOutside replies.Memory = Unit {0}
 IsFromOutside reply = ⊥
 
--- an accepted command: the loader's bench is the next one, and its image is the one that was published
-pub record IsAccepted (library : LibraryState) (before : LoaderState) (line : List ℕ) (version : ℕ) (now : LoaderState) : Type 0 where
+-- an accepted command: the loader's bench is the next one, and its image, of just the words that it takes, was published
+pub record IsAccepted (library : LibraryState) (before : LoaderState) (line : List ℕ) (version : ℕ)
+    (now : LoaderState) : Type 0 where
   pub next : IsNextBench library.files before.bench line now.bench
   pub image : List ℕ
   pub encodes : Encodes image now.bench
+  pub size : length image ≡ image_size now.bench
   pub published : IsPublished image version before.view now.view
 
 -- what the answer leaves: after all but an accepted command the bench and the published images are what they were, and at most

@@ -1,8 +1,7 @@
 -- The due answer to a command: the one that is given where nothing of the outside fails, memory is there, and a region of the
 -- store is free. It is a function of the line, the library's files, the bench and the version that were published last, the
 -- room of a region and the last version.
-use Rattle.std.specs.Prelude.{◌≡◌, ◌≢◌, ℕ, ◌+◌, List, Option, None}
-use Rattle.port_io.specs.Library.{named}
+use Rattle.std.specs.Prelude.{◌≡◌, ◌≢◌, ℕ, ◌+◌, List, Option}
 use Rattle.bench_model.specs.declared.database.Bench.{Bench}
 use Rattle.decisions.specs.ListDecisions.{FirstFailsFor}
 use Rattle.bench_inputs.specs.Asking.{Files}
@@ -13,16 +12,13 @@ use Rattle.bench_loader.specs.LoadLine.{IsOtherForm}
 use Rattle.bench_loader.specs.declared.load_line.Pair.{Pair}
 use Rattle.bench_loader.specs.declared.targets.Target.{Target}
 use Rattle.bench_loader.specs.Targets.{NamesBuses, NamesNoBus}
+use Rattle.bench_loader.specs.Verdict.{IsMissing}
 use Rattle.bench_loader.specs.NextBench.{file_names, IsRefusedLoad, IsTooLarge, IsFitting}
 
 -- the numbers of a store: how many words a region has, and the last version
 pub record Limits : Type 0 where
   pub room : ℕ
   pub last : ℕ
-
--- a library has no file of this name
-abbrev pub IsMissing : Files → List ℕ → Unit {0} → Type 0
-IsMissing files name why = named files name ≡ None
 
 -- the line is a command whose buses are known, and a file that it names is missing: no reply is due then
 pub record LacksFile (files : Files) (bench : Bench) (line : List ℕ) : Type 0 where

@@ -1,5 +1,5 @@
 -- The text of a database's fault, as the tool and the server name it: words parted by single blanks.
-use Rattle.std.specs.Prelude.{ℕ, ◌+◌, ◌^◌, List, [], ◌∷◌, ◌++◌, codes, Option, Some, None, if◌then◌else◌}
+use Rattle.std.specs.Prelude.{ℕ, ◌+◌, List, [], ◌∷◌, ◌++◌, codes, Option, Some, None, if◌then◌else◌}
 use Rattle.std.specs.Fmt.{decimal}
 use Rattle.text_words.specs.SpacedWords.{text_of_words}
 use Rattle.sig_text.specs.declared.fault.LexFault.{LexFault}
@@ -11,6 +11,7 @@ use Rattle.bench_model.specs.declared.fault.CheckWhy.{CheckWhy}
 use Rattle.bench_model.specs.declared.fault.CheckWhy.TheVariants as why
 use Rattle.bench_model.specs.declared.fault.CheckFault.{CheckFault}
 use Rattle.bench_model.specs.declared.fault.CheckFault.TheVariants as check
+use Rattle.dbc_grammar.specs.Limits.{first_long_id}
 use Rattle.dbc_grammar.specs.declared.fault.DbcFault.{DbcFault}
 use Rattle.dbc_grammar.specs.declared.fault.DbcFault.TheVariants as dbc
 use Rattle.ldf_grammar.specs.declared.fault.LdfFault.{LdfFault}
@@ -18,9 +19,9 @@ use Rattle.ldf_grammar.specs.declared.fault.LdfFault.TheVariants as ldf
 use Rattle.bench_loader.specs.declared.fault.DatabaseFault.{DatabaseFault}
 use Rattle.bench_loader.specs.declared.fault.DatabaseFault.TheVariants as faults
 
--- an identifier as one number: 2^31 more where it is extended
+-- an identifier as a DBC writes it, 2^31 more where it is extended
 abbrev pub identifier : Key → ℕ
-identifier key = if key.extended then key.id + 2 ^ 31 else key.id
+identifier key = if key.extended then key.id + first_long_id else key.id
 
 abbrev pub lex_words : LexFault → List (List ℕ)
 lex_words (lex.OpenString at) = codes "string" ∷ decimal at ∷ []

@@ -53,6 +53,6 @@ JudgesBench planned (Err (benches.Refused bus fault)) = IsFirstRefused planned (
 JudgesBench planned (Err benches.Memory) = Unit {0}
 
 -- a refusal of the bus at this place
-abbrev pub refused_at : ℕ → JudgeRefused → BenchRefused
-refused_at bus (refused.Fault fault) = benches.Refused bus fault
-refused_at bus refused.Memory = benches.Memory
+abbrev pub refusal_of_bus : ℕ → JudgeRefused → BenchRefused
+refusal_of_bus bus (refused.Fault fault) = benches.Refused bus fault
+refusal_of_bus bus refused.Memory = benches.Memory

@@ -5,7 +5,6 @@ use Rattle.std.specs.declared.alloc.Global.{Global}
 use Rattle.port_io.specs.Causes.{Rose}
 use Rattle.decisions.specs.ListDecisions.{FirstFails, FirstFailsFor}
 use Rattle.bench_model.specs.declared.database.Bus.{Bus}
-use Rattle.bench_model.specs.declared.database.Bench.{Bench}
 use Rattle.bench_model.specs.declared.replace.Change.{Change}
 use Rattle.bench_inputs.specs.declared.database_file.DatabaseFile.{DatabaseFile}
 use Rattle.bench_inputs.specs.Asking.{LibraryState, Asks, AsksFirst}
@@ -33,7 +32,7 @@ FindsTargets bench pairs (Ok targets) = AllZip (IsTarget bench) pairs targets.it
 FindsTargets bench pairs (Err (buses.Unknown place name)) = FirstFails (IsTarget bench) (IsUnknown bench) pairs place name
 FindsTargets bench pairs (Err buses.Memory) = Unit {0}
 
--- all files were asked for and read, or the first ones up to one that was not read, which is told by its bus
+-- all files were asked for and read, or the first ones up to one that was not read, which is named by its bus
 pub record ReadsAllFiles (before : LibraryState) (pairs : List Pair) (read : List DatabaseFile) (now : LibraryState) : Type 0 where
   pub asks : Asks before (file_names pairs) now
   pub are_files : AreFiles before.files pairs read

@@ -1,5 +1,5 @@
 -- The bench that a command makes: the buses that it names have the databases of its files, and all else is as it was.
-use Rattle.std.specs.Prelude.{◌≡◌, ◌<◌, ◌≤◌, ℕ, List, map, zip, Option, IfSome}
+use Rattle.std.specs.Prelude.{◌≡◌, ◌<◌, ◌≤◌, ℕ, List, length, map, zip, Option, IfSome}
 use Rattle.std.specs.List.{AllZip}
 use Rattle.decisions.specs.ListDecisions.{FirstFailsFor}
 use Rattle.bench_model.specs.declared.database.Bench.{Bench}
@@ -32,11 +32,12 @@ pub record IsRefusedChange (asked : Target × DatabaseFile) (refused : ℕ × Da
   pub bus : refused.0 ≡ asked.0.bus
   pub fault : IsRefused asked.0.kind asked.1 refused.1
 
--- what a command names: pairs, their buses, and their files as they were read
+-- what a command names: pairs, their buses, and their files as they were read, one for each pair
 pub record NamesFiles (files : Option Files) (bench : Bench) (line : List ℕ) (targets : List Target)
     (read : List DatabaseFile) : Type 0 where
   pub pairs : List Pair
   pub names : NamesBuses bench.buses line pairs targets
+  pub count : length read ≡ length pairs
   pub are_files : AreFiles files pairs read
 
 -- the command's first file that is refused is that of this bus

@@ -1,7 +1,8 @@
--- The line that answers a command. A bus is told by its name; where there is no name for its place, by the place.
+-- The line that answers a command. A bus is named by its name; where there is no name for its place, by the place.
 use Rattle.std.specs.Prelude.{ℕ, List, [], ◌∷◌, ◌++◌, codes, flat_map, slice_index_or}
 use Rattle.std.specs.Fmt.{decimal}
 use Rattle.text_words.specs.SpacedWords.{text_of_words}
+use Rattle.sig_text.specs.Bytes.{line_feed}
 use Rattle.region_store.specs.declared.loader.Holder.{Holder}
 use Rattle.bench_loader.specs.declared.reply.Reply.{Reply}
 use Rattle.bench_loader.specs.declared.reply.Reply.TheVariants as replies
@@ -28,8 +29,5 @@ reply_words names (replies.Busy holders) = codes "busy" ∷ flat_map holder_word
 reply_words names replies.Memory = codes "memory" ∷ []
 
 -- its words, parted by single blanks, and a line feed
-abbrev pub line_feed : ℕ
-line_feed = 10
-
 abbrev pub reply_line : List (List ℕ) → Reply → List ℕ
 reply_line names reply = text_of_words (reply_words names reply) ++ line_feed ∷ []

@@ -1,5 +1,5 @@
 -- Many commands, one after another, over one connection or over several; and the benches that they publish.
-use Rattle.std.specs.Prelude.{◌≡◌, ℕ, ◌+◌, Bool, true, false, List, [], ◌∷◌, ◌++◌, length, filter, Option}
+use Rattle.std.specs.Prelude.{◌≡◌, ℕ, ◌+◌, ◌≤◌, Bool, true, false, List, [], ◌∷◌, ◌++◌, length, filter, Option, IfSome, All}
 use Rattle.bench_model.specs.declared.database.Bench.{Bench}
 use Rattle.region_store.specs.declared.view.Did.{Did}
 use Rattle.bench_inputs.specs.Asking.{Files, LibraryState}
@@ -7,7 +7,7 @@ use Rattle.bench_loader.specs.declared.reply.Reply.{Reply}
 use Rattle.bench_loader.specs.declared.reply.Reply.TheVariants as replies
 use Rattle.bench_loader.specs.NextBench.{IsNextBench}
 use Rattle.bench_loader.specs.Due.{Limits}
-use Rattle.bench_loader.specs.Commands.{LoaderState, steps_in, Answers}
+use Rattle.bench_loader.specs.Commands.{LoaderState, steps_in, HasAllFiles, Answers}
 
 -- a command that was answered: its line, its reply, and the loads and stores that the loader made for it
 pub record Answered : Type 0 where
@@ -15,7 +15,7 @@ pub record Answered : Type 0 where
   pub reply : Reply
   pub steps : List Did
 
--- what a library tells and what a loader knows, between two commands
+-- what is seen of a library and what a loader knows, between two commands
 pub record Moment : Type 0 where
   pub library : LibraryState
   pub loader : LoaderState
@@ -29,7 +29,17 @@ abbrev pub Runs : Limits → Moment → List Answered → Moment → Type 0
 Runs limits before [] now = now ≡ before
 Runs limits before (entry ∷ log) now = (next : Moment) × (IsAnswered limits before entry next × Runs limits next log now)
 
--- the bench that a command adds to so many published ones, where it was accepted: its reply tells the bench's place
+-- What commands leave of the library, where this is the bench before them: its files stay, no count falls, and where all files
+-- that their lines name are there, nothing was asked for in vain.
+pub record KeepsLibraryOver (bench : Bench) (log : List Answered) (before now : LibraryState) : Type 0 where
+  pub files : now.files ≡ before.files
+  pub opens : before.open_faults ≤ now.open_faults
+  pub reads : before.more_faults ≤ now.more_faults
+  pub rises : before.strays ≤ now.strays
+  pub strays : IfSome before.files (λ files.
+      All (λ (entry : Answered). HasAllFiles files bench entry.line) log → now.strays ≡ before.strays)
+
+-- the bench that a command adds to so many published ones, where it was accepted: its reply is the bench's place
 abbrev pub AddsBench : Option Files → ℕ → Bench → List ℕ → Reply → List Bench → Bench → Type 0
 AddsBench files count bench line (replies.Ok version) added next =
     IsNextBench files bench line next × (version ≡ count) × (added ≡ next ∷ [])

@@ -45,10 +45,11 @@ pub record LacksSomeDatabase (files : Files) (name : List ℕ) : Type 0 where
 abbrev pub FitsRegion : Plan → Bench → Type 0
 FitsRegion plan bench = image_size bench ≤ plan.words
 
--- all databases are there and valid and the bench fits, but a log is not there
+-- a library has no file of this name
 abbrev pub IsMissing : Files → List ℕ → Unit {0} → Type 0
 IsMissing files name why = named files name ≡ None
 
+-- all databases are there and valid and the bench fits, but a log is not there
 pub record LacksSomeLog (files : Files) (name : List ℕ) : Type 0 where
   pub plan : Plan
   pub databases : List DatabaseFile

@@ -4,11 +4,13 @@ ghost use Rattle.std.specs.Prelude.{◌≡◌, ◌⊎◌, ◌++◌, ◌∷◌, [
 ghost use Rattle.std.specs.List.{AllZip};
 ghost use Rattle.bench_model.specs.declared.database.Bench.{Bench};
 ghost use Rattle.image_words.specs.Image.{Encodes};
+ghost use Rattle.region_store.specs.Images.{names_of};
 ghost use Rattle.bench_inputs.specs.Asking.{Files, LibraryState};
 ghost use Rattle.bench_loader.specs.declared.reply.Reply.{Reply};
 ghost use Rattle.bench_loader.specs.Due.{Limits, LacksFile, Due};
 ghost use Rattle.bench_loader.specs.Commands.{LoaderState, images_in, version_in, Answers, IsFromOutside};
-ghost use Rattle.bench_loader.specs.Runs.{Answered, Moment, IsAnswered, Runs, Published, open_replies, read_replies};
+ghost use Rattle.bench_loader.specs.Runs.{Answered, Moment, IsAnswered, Runs, KeepsLibraryOver, Published};
+ghost use Rattle.bench_loader.specs.Runs.{open_replies, read_replies};
 
 use crate::one_judgement_of_a_file;
 use bench_inputs::one_reading_of_a_database;
@@ -36,6 +38,15 @@ pub fn runs_join()
         → Runs limits a (log ++ more) c }
     ensures one_more { (limits : Limits) (a b c : Moment) (log : List Answered) (entry : Answered) → Runs limits a log b
         → IsAnswered limits b entry c → Runs limits a (log ++ entry ∷ []) c }
+{}
+
+/// Commands leave the library's files as they are and let no count fall. Its number of strays rises only where a file that a
+/// line names is not there, and the buses keep their names and kinds.
+pub fn runs_keep_the_library()
+    ensures library { (limits : Limits) (before now : Moment) (log : List Answered) → Runs limits before log now
+        → KeepsLibraryOver before.loader.bench log before.library now.library }
+    ensures buses { (limits : Limits) (before now : Moment) (log : List Answered) → Runs limits before log now
+        → names_of now.loader.bench ≡ names_of before.loader.bench }
 {}
 
 /// The images that commands publish behind a first one encode, one by one, the benches that the accepted commands make:

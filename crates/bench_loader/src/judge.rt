@@ -8,7 +8,7 @@ ghost use Rattle.bench_loader.specs.declared.fault.DatabaseFault.{DatabaseFault 
 ghost use Rattle.bench_loader.specs.declared.fault.JudgeRefused.TheVariants as refusals;
 ghost use Rattle.bench_loader.specs.declared.fault.BenchRefused.TheVariants as refused_benches;
 ghost use Rattle.bench_loader.specs.Judging.{Holds, IsRefused, AreBuses, IsFirstRefused};
-ghost use Rattle.bench_loader.specs.JudgeView.{JudgesDbc, JudgesLdf, JudgesFile, JudgesBus, JudgesBench, refused_at};
+ghost use Rattle.bench_loader.specs.JudgeView.{JudgesDbc, JudgesLdf, JudgesFile, JudgesBus, JudgesBench, refusal_of_bus};
 
 use crate::{BenchRefused, DatabaseFault, JudgeRefused, one_judgement, one_judgement_of_a_file};
 use bench_file::PlannedBus;
@@ -107,8 +107,8 @@ fn judge_bus(alloc: Global, bus: &PlannedBus, file: &DatabaseFile) -> Result<Bus
 }
 
 /// A refusal of the bus at this place.
-pub(crate) fn refused_at(bus: u32, refused: JudgeRefused) -> BenchRefused
-    ensures { result ≡ refused_at bus refused }
+pub(crate) fn refusal_of_bus(bus: u32, refused: JudgeRefused) -> BenchRefused
+    ensures { result ≡ refusal_of_bus bus refused }
 {
     match refused {
         JudgeRefused::Fault { fault } => BenchRefused::Refused { bus, fault },
@@ -130,7 +130,7 @@ fn judge_buses(
     for (i, bus) in buses.iter().enumerate() {
         match judge_bus(alloc, bus, &files[i]) {
             Ok(bus) => judged.push(bus)?,
-            Err(refused) => return Err(refused_at(i as u32, refused)),
+            Err(refused) => return Err(refusal_of_bus(i as u32, refused)),
         }
     }
     Ok(Bench {

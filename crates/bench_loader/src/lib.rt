@@ -29,6 +29,7 @@ mod text;
 pub use check::{CheckRefused, check_file};
 pub use command_laws::{
     images_are_published, one_due_reply, one_list_is_published, replies_are_counted, runs_join,
+    runs_keep_the_library,
 };
 pub use fault::{BenchRefused, DatabaseFault, JudgeRefused};
 pub use judge::{judge_bench, judge_database};

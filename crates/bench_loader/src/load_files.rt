@@ -6,7 +6,7 @@ ghost use Rattle.bench_inputs.specs.Asking.{library_told};
 ghost use Rattle.bench_loader.specs.LoadView.{ReadsFiles, JudgesFiles, unread_of};
 
 use crate::BenchRefused;
-use crate::judge::{judge_database, refused_at};
+use crate::judge::{judge_database, refusal_of_bus};
 use crate::load_line::Pair;
 use crate::targets::Target;
 use bench_inputs::{DatabaseFile, FileRefused, read_database};
@@ -96,7 +96,7 @@ pub(crate) fn judge_files(
                 bus: target.bus,
                 database,
             })?,
-            Err(refused) => return Err(refused_at(target.bus, refused)),
+            Err(refused) => return Err(refusal_of_bus(target.bus, refused)),
         }
     }
     Ok(changes)

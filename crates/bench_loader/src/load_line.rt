@@ -22,7 +22,7 @@ const MOST_PAIRS: usize = 16;
 /// How many bytes the name of a file may have.
 const LONGEST_FILE_NAME: usize = 255;
 
-/// A bus, as its name stands in a command, and the file of its new database.
+/// A bus, by the name that a command gives it, and the file of its new database.
 #[derive(Debug, Drop)]
 pub struct Pair {
     pub bus: Text,

@@ -4,7 +4,7 @@ ghost use Rattle.std.specs.Prelude.{◌≡◌, ℕ, List};
 ghost use Rattle.bench_inputs.specs.Asking.{library_told};
 ghost use Rattle.bench_model.specs.ValidBench.{IsValidBench};
 ghost use Rattle.bench_loader.specs.Commands.{Answers};
-ghost use Rattle.bench_loader.specs.LoaderView.{state_of, limits_of, IsFirst, IsLoaderOn};
+ghost use Rattle.bench_loader.specs.LoaderView.{state_of, limits_of, IsFirst, HasPublished, IsLoaderOn};
 ghost use Rattle.bench_loader.specs.CommandView.{FindsNext, PutsBench, reply_of};
 ghost use Rattle.bench_loader.specs.ReplyView.{reply_of_image};
 ghost use Rattle.image_words.specs.Image.{Encodes};
@@ -32,8 +32,8 @@ pub struct Loader {
     seat: LoaderSeat,
 }
 
-/// A refusal of an image by this room.
-fn refused_image(room: usize, refused: CompileRefused) -> Reply
+/// A refusal of an image that was made for this room, as the reply.
+fn reply_of_image(room: usize, refused: CompileRefused) -> Reply
     ensures { result ≡ reply_of_image room refused }
 {
     match refused {
@@ -71,6 +71,8 @@ impl Loader {
     /// has.
     pub fn new(bench: Bench, room: usize, seat: LoaderSeat) -> Loader
         ensures kept { (result.bench ≡ bench) × (result.room ≡ room) × (result.seat ≡ seat) }
+        // The seat may be that of any loader of this bench.
+        ensures loader { (s : Store) → HasPublished s bench room seat → IsLoaderOn s result }
         // The seat of a store that was just made: its first image is published as version 0.
         ensures first { (s : Store) (image : List ℕ) → IsFirst s image seat → room ≡ (shape_of s).room → IsValidBench bench
             → Encodes image bench → IsLoaderOn s result }
@@ -78,7 +80,7 @@ impl Loader {
         Loader { bench, room, seat }
     }
 
-    /// The seat, as it stands.
+    /// The seat.
     pub fn into_seat(self) -> LoaderSeat
         ensures { result ≡ self.seat }
     {
@@ -101,7 +103,7 @@ impl Loader {
         one_encoded();
         let image = match compile(alloc, &next, self.room) {
             Ok(image) => image,
-            Err(refused) => return Err(refused_image(self.room, refused)),
+            Err(refused) => return Err(reply_of_image(self.room, refused)),
         };
         let version = store.publish(&mut self.seat, &image)?;
         self.bench = next;

@@ -15,7 +15,7 @@ pub enum Reply {
     Ok { version: u32 },
     /// The line is no command.
     Words,
-    /// The pair at this place is the first whose bus is not one of the bench; this is the name that stands there.
+    /// The pair at this place is the first whose bus is not one of the bench; the name is what the pair has for it.
     UnknownBus { place: u32, name: Text },
     /// The file of this bus could not be opened.
     OpenFault { bus: u32 },

@@ -3,7 +3,7 @@ use Rattle.bench_loader.proofs.judge.judge_buses.Goals as goal
 
 pub returns-in-Err : goal.returns-in-Err
 returns-in-Err c =
-    rw c.refused_at.ensures (judged_refuses c.args.buses.now c.args.files.now c.loop-i.i c.index-buses-i.result c.index-files-i.result c.loop-i.judged.items c.in-Err.refused c.requires.files
+    rw c.refusal_of_bus.ensures (judged_refuses c.args.buses.now c.args.files.now c.loop-i.i c.index-buses-i.result c.index-files-i.result c.loop-i.judged.items c.in-Err.refused c.requires.files
     c.loop-i-test.true c.index-buses-i.is c.index-files-i.is c.loop-i.invariant c.in-Err.ensures)
 
 pub loop-i-preserved : goal.loop-i-preserved

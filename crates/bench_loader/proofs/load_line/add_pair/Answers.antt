@@ -1,4 +1,4 @@
-use Rattle.std.proofs.Common.{arith, rules}
+use Rattle.std.proofs.Common.{rules}
 use Rattle.bench_loader.specs.declared.load_line.Pair.{Pair}
 use Rattle.bench_loader.proofs.LineLaws.{breaks_few, breaks_bus, added}
 use Rattle.bench_loader.proofs.load_line.add_pair.Goals as goal

@@ -50,7 +50,7 @@ returns-in_err-changes g c =
     let judged = changes_at c.deref-4.result.now c.in_ok-targets.targets.items c.deref-5.result.now c.in_ok-files.files.items (Err c.in_err-changes.field-0.0) c.deref-4.ensures.value c.deref-5.ensures.value c.in_err-changes.ensures in
     finds_as _ _ c.args.bench.now c.args.line.now c.from_residual-in_err-changes.result (reply_of_bench c.in_err-changes.field-0.0) c.from_residual-in_err-changes.ensures.1
     (keeps_asked c.files_that_are_there.ensures _ _ c.args.bench.now c.args.line.now c.in_ok-pairs.pairs.items c.in_ok-targets.targets.items names (asks_all _ _ _ read.asks))
-    (fault_early _ _ c.args.bench.now c.args.line.now c.in_ok-pairs.pairs.items c.in_ok-targets.targets.items c.in_ok-files.files.items c.in_err-changes.field-0.0 names read.are_files judged)
+    (fault_early _ _ c.args.bench.now c.args.line.now c.in_ok-pairs.pairs.items c.in_ok-targets.targets.items c.in_ok-files.files.items c.in_err-changes.field-0.0 names read.count read.are_files judged)
 
 pub returns-in_err-replace : goal.returns-in_err-replace
 returns-in_err-replace g c =
@@ -74,7 +74,7 @@ returns g c =
     record {
       asks = keeps_asked c.files_that_are_there.ensures _ _ c.args.bench.now c.args.line.now c.in_ok-pairs.pairs.items c.in_ok-targets.targets.items names (asks_all _ _ _ read.asks);
       answer = (
-        is_next _ c.args.bench.now c.args.line.now c.in_ok-pairs.pairs.items c.in_ok-targets.targets.items c.in_ok-files.files.items c.in_ok-changes.changes.items c.in_ok-replace.field-0 names read.are_files judged c.in_ok-replace.ensures.after,
+        is_next _ c.args.bench.now c.args.line.now c.in_ok-pairs.pairs.items c.in_ok-targets.targets.items c.in_ok-files.files.items c.in_ok-changes.changes.items c.in_ok-replace.field-0 names read.count read.are_files judged c.in_ok-replace.ensures.after,
         c.in_ok-replace.ensures.valid c.requires.valid,
       );
     }

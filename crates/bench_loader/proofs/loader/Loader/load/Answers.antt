@@ -1,4 +1,3 @@
-use Rattle.std.proofs.Common.{rules}
 use Rattle.bench_loader.specs.LoaderView.{state_of, limits_of}
 use Rattle.bench_loader.proofs.CommandLaws.{answers_as, answers_put}
 use Rattle.bench_loader.proofs.PutLaws.{names_after}
