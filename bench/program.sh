@@ -2,6 +2,6 @@
 set -euo pipefail
 top="$(cd "$(dirname "${BASH_SOURCE[0]}")/.." && pwd)"
 program="$top/crates/sigserve/out/sigserve"
-[ -x "$program" ] || { echo "no built program: run ./demo --proved first" >&2; exit 2; }
+[ -x "$program" ] || { echo "no built program: run ./demo first" >&2; exit 2; }
 work="$(mktemp -d)"
 trap 'rm -rf "$work"' EXIT

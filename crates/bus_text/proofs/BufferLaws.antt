@@ -1,5 +1,5 @@
 -- One text given to a buffer after another is one text given.
-use Rattle.std.proofs.Common.{◌≡◌, ℕ, ◌+◌, ◌<◌, ◌≤◌, List, [], ◌++◌, length, take, drop, Option, None, Some, Result, Ok, Err, IsErr, IsErrAnd, IfErr, refl, sym, ap, ◌∙◌, append_assoc, length-drop, arith}
+use Rattle.std.proofs.Common.{◌≡◌, ℕ, ◌+◌, ◌<◌, ◌≤◌, List, [], ◌++◌, length, take, drop, Option, None, Some, Result, Ok, Err, OnOk, IsErr, IsErrAnd, IfErr, refl, sym, ap, ◌∙◌, append_assoc, length-drop, arith}
 use Rattle.std.proofs.lemmas.List.{append-nil, take_rest}
 use Rattle.std.proofs.Math.Seq.{take-add}
 use Rattle.std.specs.List.{between}
@@ -86,6 +86,11 @@ prints_none s text = record { given = []; rest = text; parted = refl; all = tt; 
 -- the same text by another equation
 pub prints_as : {before now : Output} {first second : List ℕ} {r : Result (Unit {0}) PrintRefused} → first ≡ second → PrintsText first before r now → PrintsText second before r now
 prints_as e p = record { given = p.given; rest = p.rest; parted = p.parted ∙ e; all = p.all; buffers = p.buffers; cause = p.cause }
+
+-- what holds holds on Ok
+pub on_ok : {T E : Type 0} (r : Result T E) (P : Type 0) → P → OnOk r P
+on_ok (Ok x) P p = p
+on_ok (Err e) P p = tt
 
 -- an error that `?` passes on
 pub same_error : {T E : Type 0} (r : Result T E) (e : E) → IsErr r × IsErrAnd r (λ x. x ≡ e) → r ≡ Err e

@@ -86,12 +86,13 @@ goes_on_from made none w bench bus l s decoder e log d n = record {
 map_one : (read : List (List ℕ)) (text : List ℕ) (line : LogLine) → line ≡ line_of text → map line_of read ++ line ∷ [] ≡ map line_of (read ++ text ∷ [])
 map_one read text line e = ap (λ l. map line_of read ++ l ∷ []) e ∙ sym (map-append line_of read (text ∷ []))
 
--- what is said of a line under an image's bench is said under that bench
-pub prints_under : (w : WantList) {bus : BusPlace} {decoder : BusDecoder} (line : LogLine) {mid now : Output} {result : Result (Unit {0}) PrintRefused} (image bench : Bench) → image ≡ bench
-    → ((lines : List LogLine) → HasDecoded image bus decoder lines → PrintsText (line_text w image bus lines line) mid result now)
+-- what is said of a line under a printer's wants and an image's bench is said under those wants and that bench
+pub prints_under : (v w : WantList) {bus : BusPlace} {decoder : BusDecoder} (line : LogLine) {mid now : Output} {result : Result (Unit {0}) PrintRefused} (image bench : Bench) → v ≡ w → image ≡ bench
+    → ((lines : List LogLine) → HasDecoded image bus decoder lines → PrintsText (line_text v image bus lines line) mid result now)
     → (lines : List LogLine) → HasDecoded bench bus decoder lines → PrintsText (line_text w bench bus lines line) mid result now
-prints_under w {bus} {decoder} line {mid} {now} {result} image bench e f =
-    subst (λ (b : Bench). (lines : List LogLine) → HasDecoded b bus decoder lines → PrintsText (line_text w b bus lines line) mid result now) e f
+prints_under v w {bus} {decoder} line {mid} {now} {result} image bench wants e f =
+    let P : WantList → Bench → Type 0 = λ x b. (lines : List LogLine) → HasDecoded b bus decoder lines → PrintsText (line_text x b bus lines line) mid result now in
+    subst (λ (b : Bench). P w b) e (subst (λ (x : WantList). P x image) wants f)
 
 pub decoded_under : {bus : BusPlace} {decoder decoder' : BusDecoder} {line : LogLine} (image bench : Bench) → image ≡ bench
     → ((lines : List LogLine) → HasDecoded image bus decoder lines → HasDecoded image bus decoder' (lines ++ line ∷ []))

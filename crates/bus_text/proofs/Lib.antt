@@ -1,4 +1,5 @@
 pub mod TextLaws
 pub mod LineLaws
+pub mod PrinterLaws
 pub mod BufferLaws
 pub mod BusLaws

@@ -5,6 +5,7 @@ pub mod Buffering
 pub mod Printing
 -- how the code comes to it, line by line
 pub mod LineView
+pub mod PrinterView
 pub mod ImageView
 pub mod Refusals
 pub mod Fronts

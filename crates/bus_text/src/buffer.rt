@@ -90,9 +90,41 @@ impl TextBuffer {
         ensures other { K.other out.new ≡ K.other out.old }
     {
         append(wants, item, &mut self.text)?;
-        if self.text.len() >= LIMIT {
-            self.flush(out)?;
-        }
+        self.flush_full(out)?;
         Ok(())
+    }
+
+    /// Appends a text, and writes all that is pending where that is much. After out of memory nothing was appended or
+    /// written.
+    pub(crate) fn append_text<K: Sink>(
+        &mut self,
+        text: &[u8],
+        out: &mut K,
+    ) -> Result<(), PrintRefused>
+        ensures prints { PrintsText text.now
+            (output (K.written out.old) (K.write_faults out.old) self.old) result
+            (output (K.written out.new) (K.write_faults out.new) self.new) }
+        ensures short { OnOk result (length self.new < buffer_limit) }
+        ensures memory { IsErrOf result PrintRefused.Memory → (self.new ≡ self.old)
+            × (K.written out.new ≡ K.written out.old) }
+        ensures other { K.other out.new ≡ K.other out.old }
+    {
+        self.text.extend_from_slice(text)?;
+        self.flush_full(out)?;
+        Ok(())
+    }
+
+    /// Writes all that is pending where that is much.
+    fn flush_full<K: Sink>(&mut self, out: &mut K) -> Result<(), Failed>
+        ensures kept { Buffers (output (K.written out.old) (K.write_faults out.old) self.old) []
+            (output (K.written out.new) (K.write_faults out.new) self.new) }
+        ensures short { OnOk result (length self.new < buffer_limit) }
+        ensures cause { HasCause (K.write_faults out.old) (K.write_faults out.new) result }
+        ensures other { K.other out.new ≡ K.other out.old }
+    {
+        if self.text.len() < LIMIT {
+            return Ok(());
+        }
+        self.flush(out)
     }
 }

@@ -13,6 +13,7 @@ mod buffer;
 mod bus;
 mod image;
 mod laws;
+mod printer;
 mod printing;
 mod records;
 mod refused;

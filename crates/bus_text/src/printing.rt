@@ -4,7 +4,7 @@ ghost use Rattle.byte_forms.specs.Lines.{all_lines};
 ghost use Rattle.candump_log.specs.declared.log_line.LogLine.{LogLine as Line};
 ghost use Rattle.candump_log.specs.LineOf.{line_of};
 ghost use Rattle.candump_log.specs.LinesState.{told, fresh, log_of};
-ghost use Rattle.decoded_list.specs.RecordsView.{record_list};
+ghost use Rattle.decoded_list.specs.RecordsView.{one_or_none};
 ghost use Rattle.subscriber_text.specs.ItemText.{items_text};
 ghost use Rattle.bus_text.specs.BusText.{bus_at, reading_items, bus_text};
 ghost use Rattle.bus_text.specs.Buffering.{buffer_limit, output, Buffers, PrintsText};
@@ -12,11 +12,12 @@ ghost use Rattle.bus_text.specs.LineView.{start_at, line_text, HasDecoded};
 ghost use Rattle.bus_text.specs.Printing.{PrintsBus, Settles, IsWritten};
 ghost use Rattle.bus_text.specs.declared.bus.BusPlace.{BusPlace as Place};
 
-use crate::records::records_of;
+use crate::printer::RecordPrinter;
+use crate::records::print_own;
 use crate::{BenchImage, BusPlace, BusRefused, TextBuffer, the_text_goes_on};
-use bench_model::Item;
+use bench_model::{Item, Reading};
 use candump_log::{Lines, LogLine, NoLines, lines_read};
-use decoded_list::{BusDecoder, Records};
+use decoded_list::BusDecoder;
 use port_io::{Sink, Source};
 use std::alloc::Global;
 use subscriber_text::{PrintRefused, Wants};
@@ -52,22 +53,22 @@ fn print_start<K: Sink>(
     Ok(())
 }
 
-/// Prints the records of a line.
+/// Prints the records of a line: its own, whose text the printer has, and the other one.
 fn print_records<K: Sink>(
-    records: Records,
-    wants: &Wants,
+    printer: &RecordPrinter,
+    other: Option<Reading>,
     buffer: &mut TextBuffer,
     out: &mut K,
 ) -> Result<(), PrintRefused>
-    ensures prints { PrintsText (items_text wants.now (reading_items (record_list records)))
+    ensures prints { PrintsText (printer.now.text.items
+        ++ items_text printer.now.wants.now (reading_items (one_or_none other)))
         (output (K.written out.old) (K.write_faults out.old) buffer.old) result
         (output (K.written out.new) (K.write_faults out.new) buffer.new) }
     ensures other { K.other out.new ≡ K.other out.old }
 {
-    let Records { own, transported } = records;
-    buffer.append(wants, &Item::Reading { reading: own }, out)?;
-    if let Some(reading) = transported {
-        buffer.append(wants, &Item::Reading { reading }, out)?;
+    buffer.append_text(&printer.text, out)?;
+    if let Some(reading) = other {
+        buffer.append(printer.wants, &Item::Reading { reading }, out)?;
     }
     Ok(())
 }
@@ -78,7 +79,7 @@ fn print_line<K: Sink>(
     decoder: &mut BusDecoder,
     place: u32,
     line: &LogLine,
-    wants: &Wants,
+    printer: &mut RecordPrinter,
     buffer: &mut TextBuffer,
     out: &mut K,
 ) -> Result<(), PrintRefused>
@@ -86,7 +87,7 @@ fn print_line<K: Sink>(
     requires bus { place < length image.old.buses }
     requires room { decoder.old.next + 2 < 2 ^ 64 }
     ensures prints { (bus : Place) (lines : List Line) → HasDecoded image.old bus decoder.old lines
-        → PrintsText (line_text wants.now image.old bus lines line.now)
+        → PrintsText (line_text printer.old.wants.now image.old bus lines line.now)
         (output (K.written out.old) (K.write_faults out.old) buffer.old) result
         (output (K.written out.new) (K.write_faults out.new) buffer.new) }
     ensures decoded { (bus : Place) (lines : List Line) → HasDecoded image.old bus decoder.old lines
@@ -94,13 +95,14 @@ fn print_line<K: Sink>(
     ensures next { OnOk result (decoder.new.next ≤ decoder.old.next + 2) }
     ensures same { decoder.new.bus ≡ decoder.old.bus }
     ensures bench { image.new ≡ image.old }
+    ensures wants { OnOk result (printer.new.wants.now ≡ printer.old.wants.now) }
     ensures other { K.other out.new ≡ K.other out.old }
 {
     the_text_goes_on();
     let number = decoder.next_number();
-    let records = records_of(image, decoder, place, line)?;
-    print_start(records.own.bus, number, wants, buffer, out)?;
-    print_records(records, wants, buffer, out)
+    let other = print_own(image, decoder, place, line, printer)?;
+    print_start(place, number, printer.wants, buffer, out)?;
+    print_records(printer, other, buffer, out)
 }
 
 /// Prints the end of a bus behind its records.
@@ -148,8 +150,17 @@ fn print_lines<S: Source, K: Sink>(
     lines_read();
     the_text_goes_on();
     let mut decoder = BusDecoder::new(alloc, bus.place, bus.kind);
+    let mut printer = RecordPrinter::new(alloc, wants);
     'lines: while let Some(line) = lines.next()? {
-        print_line(image, &mut decoder, bus.place, &line, wants, buffer, out)?;
+        print_line(
+            image,
+            &mut decoder,
+            bus.place,
+            &line,
+            &mut printer,
+            buffer,
+            out,
+        )?;
     }
     print_end(bus.place, &decoder, wants, buffer, out)?;
     Ok(())

@@ -5,6 +5,7 @@ pub mod ReadLaws
 pub mod FirstFaultLaws
 pub mod WantLaws
 pub mod RecordLaws
+pub mod MessageLaws
 pub mod FeedLaws
 pub mod PartLaws
 pub mod ItemPartLaws

@@ -3,6 +3,7 @@ pub mod Wants
 pub mod WantLines
 pub mod FirstFault
 pub mod ItemText
+pub mod MessageParts
 pub mod Prints
 pub mod Parts
 pub mod BeforeGo
@@ -11,3 +12,4 @@ pub mod Plain
 pub mod LineParts
 pub mod WantView
 pub mod LineView
+pub mod PartsView

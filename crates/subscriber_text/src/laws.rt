@@ -1,15 +1,19 @@
 //! Laws of the text of items. Each function is a law: it does nothing, and its clauses are proved of the
 //! definitions.
 
-ghost use Rattle.std.specs.Prelude.{◌≡◌, ◌<◌, ◌≤◌, ◌↔◌, ◌∷◌, ◌++◌, ℕ, Bool, List, length, map, take, true, false, Some, None, Ok, Err};
+ghost use Rattle.std.specs.Prelude.{◌≡◌, ◌<◌, ◌≤◌, ◌↔◌, [], ◌∷◌, ◌++◌, ℕ, Bool, List, length, map, take, true, false, Some, None, Ok, Err};
 ghost use Rattle.std.specs.List.{list_all, list_any};
+ghost use Rattle.bench_model.specs.declared.reading.SignalValue.{SignalValue};
 ghost use Rattle.bench_model.specs.declared.reading.Item.{Item};
+ghost use Rattle.bench_model.specs.declared.reading.Item.TheVariants as Items;
 ghost use Rattle.byte_forms.specs.Lines.{all_lines};
 ghost use Rattle.subscriber_text.specs.Wants.{WantList};
 ghost use Rattle.subscriber_text.specs.WantLines.{IsWant, line_words, want_line, asked};
 ghost use Rattle.subscriber_text.specs.FirstFault.{IsFirstFault, behind_format};
 ghost use Rattle.subscriber_text.specs.BeforeGo.{is_go, before_go, bytes_of, wants_before_go, Refused, Unfinished, Unasked, request_of_wants, request};
-ghost use Rattle.subscriber_text.specs.ItemText.{bus_name, items_text};
+ghost use Rattle.subscriber_text.specs.ItemText.{bus_name, item_text, items_text};
+ghost use Rattle.subscriber_text.specs.MessageParts.{message_record, first_line, signals_wanted, covered_lines};
+ghost use Rattle.subscriber_text.specs.declared.message_parts.RecordPlace.{RecordPlace};
 ghost use Rattle.subscriber_text.specs.Parts.{fed_lines, without_feed, AreBusNames, is_plainly_named, part_of, items_of};
 ghost use Rattle.subscriber_text.specs.Parts.{IsOfWantedBuses, IsCutText, IsBehindHeader};
 
@@ -22,6 +26,15 @@ pub fn the_part_of_a_bus_is_the_text_of_its_items()
         → bus < length wants.names
         → list_all is_plainly_named items ≡ true
         → part_of (items_text wants items) (bus_name wants bus) ≡ items_text wants (items_of items bus) }
+{}
+
+/// The first line of a message's record and the lines of its signals one after another, each where it is wanted, are
+/// the text of the record.
+pub fn the_parts_of_a_record_are_its_text()
+    ensures { (wants : WantList) (place : RecordPlace) (message : List ℕ) (signals : List SignalValue)
+        → first_line wants (message_record place message [])
+        ++ covered_lines wants place.bus message (signals_wanted wants place.bus message) signals
+        ≡ item_text wants (Items.Reading (message_record place message signals)) }
 {}
 
 /// Each line of a text of items stands in the part of a wanted bus: where the names of the buses are words, and

@@ -16,6 +16,7 @@ mod index;
 mod item;
 mod laws;
 mod line;
+mod message_parts;
 mod printing;
 mod read;
 mod record;
@@ -29,10 +30,12 @@ pub use item::append;
 pub use laws::{
     a_prefix_of_items_is_whole_but_for_the_last, each_line_is_of_a_wanted_bus,
     the_first_faulty_line_decides, the_part_of_a_bus_is_the_text_of_its_items,
-    the_rest_behind_the_header_is_one, the_wants_before_go_are_what_is_asked,
-    the_wants_end_at_the_first_go,
+    the_parts_of_a_record_are_its_text, the_rest_behind_the_header_is_one,
+    the_wants_before_go_are_what_is_asked, the_wants_end_at_the_first_go,
 };
+pub use message_parts::{RecordPlace, WantedSignals, append_message, append_wanted_signal};
 pub use printing::{header, print};
+pub use signal::SignalParts;
 pub use wants::Wants;
 
 #[cfg(test)]

@@ -6,14 +6,14 @@ ghost use Rattle.bench_model.specs.declared.reading.Item.TheVariants as Items;
 ghost use Rattle.std.specs.Fmt.{decimal};
 ghost use Rattle.byte_forms.specs.Hexadecimal.{hex_digits};
 ghost use Rattle.subscriber_text.specs.LineParts.{group_text};
-ghost use Rattle.text_words.specs.SpacedWords.{text_of_words};
-ghost use Rattle.subscriber_text.specs.ItemText.{hex_bytes, key_text, cause_text, begin_stamped, name_or_dash, message_of, signals_of, record_words, line_of, item_text};
+ghost use Rattle.subscriber_text.specs.ItemText.{hex_bytes, key_text, cause_text, name_or_dash, message_of, signals_of, record_words, line_of, item_text};
 ghost use Rattle.subscriber_text.specs.WantView.{name_of};
 ghost use Rattle.exact_scale.specs.Buffer.{Extends};
 
 use crate::Wants;
 use crate::bytes::append_hex;
 use crate::line::{append_line, append_words};
+use crate::message_parts::{RecordPlace, append_begin, append_message_line};
 use crate::signal::append_signals;
 use bench_model::{Body, CutCause, Key, Reading, SignalValue, Text};
 use byte_forms::hex_of_number;
@@ -43,29 +43,6 @@ fn cause_word(cause: CutCause) -> &'static [u8]
         CutCause::Abort => b"abort",
         CutCause::End => b"end",
     }
-}
-
-/// Appends what a record begins with but for its letter: its bus, its number, its version and its stamp.
-fn append_begin(
-    out: &mut Vec<u8>,
-    letter: &[u8],
-    bus: &[u8],
-    reading: &Reading,
-) -> Result<(), AllocError>
-    ensures ok { OnOk result (out.new.items ≡ out.old.items ++ text_of_words
-        (begin_stamped letter.now bus.now reading.now [])) }
-    ensures grows { Extends out.old.items out.new.items }
-{
-    let mut number = Buffer::new();
-    let mut version = Buffer::new();
-    let mut micros = Buffer::new();
-    let words = [
-        bus,
-        number.format(reading.number).as_bytes(),
-        version.format(reading.version).as_bytes(),
-        micros.format(reading.micros).as_bytes(),
-    ];
-    append_words(out, letter, &words)
 }
 
 /// Appends an identifier and bytes, behind a blank, and ends the line.
@@ -154,21 +131,19 @@ fn append_first_line(out: &mut Vec<u8>, bus: &[u8], reading: &Reading) -> Result
         (record_words bus.now reading.now reading.now.body)) }
     ensures grows { Extends out.old.items out.new.items }
 {
+    let place = RecordPlace::of(reading);
     match &reading.body {
-        Body::Message { name, .. } => {
-            append_begin(out, b"m", bus, reading)?;
-            append_line(out, b"", &[name.bytes()])
-        }
+        Body::Message { name, .. } => append_message_line(out, bus, place, name.bytes()),
         Body::Unmatched { key, bytes } => {
-            append_begin(out, b"u", bus, reading)?;
+            append_begin(out, b"u", bus, place)?;
             append_frame(out, *key, bytes.bytes())
         }
         Body::Remote { key } => {
-            append_begin(out, b"r", bus, reading)?;
+            append_begin(out, b"r", bus, place)?;
             append_line(out, b"", &[key_digits(*key, &hex_of_number(key.id))])
         }
         Body::Error { id } => {
-            append_begin(out, b"e", bus, reading)?;
+            append_begin(out, b"e", bus, place)?;
             append_line(out, b"", &[&hex_of_number(*id)])
         }
         Body::Bad => append_bad(out, bus, reading),
@@ -180,11 +155,11 @@ fn append_first_line(out: &mut Vec<u8>, bus: &[u8], reading: &Reading) -> Result
             name,
             ..
         } => {
-            append_begin(out, b"t", bus, reading)?;
+            append_begin(out, b"t", bus, place)?;
             append_transport(out, *pgn, *sa, *da, bytes.bytes(), name_or_dash(name))
         }
         Body::Cut { pgn, sa, da, cause } => {
-            append_begin(out, b"c", bus, reading)?;
+            append_begin(out, b"c", bus, place)?;
             append_cut(out, *pgn, *sa, *da, *cause)
         }
     }

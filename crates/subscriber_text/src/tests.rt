@@ -7,6 +7,7 @@ use std::test::*;
 
 mod before_go;
 mod items;
+mod parts;
 mod wants;
 
 /// The buses `A` and `Bus2`.

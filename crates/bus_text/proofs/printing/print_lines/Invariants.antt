@@ -8,6 +8,7 @@ use Rattle.bus_text.proofs.printing.print_lines.Given as goal
 abbrev pub invariant-lines : goal.invariant-lines
 invariant-lines g l = record {
   goes : GoesOn l.fn.wants l.fn.image l.fn.bus l.fn.lines l.lines (output (g.K.Sink.written l.fn.out) (g.K.Sink.write_faults l.fn.out) l.fn.buffer) (output (g.K.Sink.written l.out) (g.K.Sink.write_faults l.out) l.buffer) l.decoder;
+  wants : l.printer.wants.now ≡ l.fn.wants;
   bench : l.image ≡ l.fn.image;
   other : g.K.Sink.other l.out ≡ g.K.Sink.other l.fn.out;
 }
