@@ -3,6 +3,7 @@
 ghost use Rattle.std.specs.Prelude.{◌≡◌, ◌≤◌, codes, IfOk, [], ◌∷◌};
 ghost use Rattle.bench_model.specs.ValidBench.{IsValidBench};
 ghost use Rattle.region_store.specs.Layout.{most_regions, most_lanes, most_room};
+ghost use Rattle.region_store.specs.Ends.{IsLaneOf};
 ghost use Rattle.region_store.specs.LoaderEnd.{AreLanesOf};
 ghost use Rattle.bench_loader.specs.LoaderView.{IsLoaderOn};
 ghost use Rattle.bench_loader.specs.TestView.{IsEmptyBus};
@@ -18,8 +19,18 @@ use std::process::Abort;
 use std::test::Fail;
 
 /// A database whose image takes 65 words beside those of a bus "A".
-const OIL: &[u8] =
-    b"VERSION \"\"\nNS_ :\n\tNS_DESC_\n\tCM_\n\tBA_DEF_\n\tVAL_\nBS_:\nBU_: ECU Tester\nBO_ 256 Engine: 8 ECU\n SG_ Speed : 0|16@1+ (0.25,0) [0|16383.75] \"rpm\" Tester\n SG_ Oil : 16|8@1- (1,40) [-88|167] \"\xB0C\" Tester\n SG_ Gear : 24|4@1+ (1,0) [0|15] \"\" Tester\nCM_ SG_ 256 Gear \"Gear; as shown\";\nBA_DEF_ BO_ \"GenMsgCycleTime\" INT 0 1000;\nBA_ \"GenMsgCycleTime\" BO_ 256 100;\nVAL_ 256 Gear 0 \"Neutral\" 1 \"First\" ;\n";
+const OIL: &[u8] = b"VERSION \"\"\n\
+    NS_ :\n\tNS_DESC_\n\tCM_\n\tBA_DEF_\n\tVAL_\n\
+    BS_:\n\
+    BU_: ECU Tester\n\
+    BO_ 256 Engine: 8 ECU\n \
+    SG_ Speed : 0|16@1+ (0.25,0) [0|16383.75] \"rpm\" Tester\n \
+    SG_ Oil : 16|8@1- (1,40) [-88|167] \"\xB0C\" Tester\n \
+    SG_ Gear : 24|4@1+ (1,0) [0|15] \"\" Tester\n\
+    CM_ SG_ 256 Gear \"Gear; as shown\";\n\
+    BA_DEF_ BO_ \"GenMsgCycleTime\" INT 0 1000;\n\
+    BA_ \"GenMsgCycleTime\" BO_ 256 100;\n\
+    VAL_ 256 Gear 0 \"Neutral\" 1 \"First\" ;\n";
 
 fn empty_bus(alloc: Global, name: &[u8], kind: Kind) -> Result<Bus, AllocError>
     ensures { IfOk result (IsEmptyBus name.now) }
@@ -56,21 +67,23 @@ fn two_buses(alloc: Global) -> Result<Bench, AllocError>
     })
 }
 
-/// A store of two regions of so many words with this bench, its loader, and the seats of two lanes.
+/// A store of so many regions of so many words with this bench, its loader, and the seats of two lanes.
 fn store_of(
     alloc: Global,
     bench: Bench,
+    regions: u32,
     words: usize,
     last: u32,
 ) -> Result<(Store, Loader, Vec<LaneSeat>), Fail>
     requires valid { IsValidBench bench }
+    requires regions { (2 ≤ regions) × (regions ≤ most_regions) }
     requires words { (1 ≤ words) × (words ≤ most_room) }
     ensures loader { IfOk result (λ r. IsLoaderOn r.0 r.1) }
     ensures lanes { IfOk result (λ r. AreLanesOf r.0 2 r.2.items) }
 {
     one_encoded();
     let image = compile(alloc, &bench, words)?;
-    let (store, seat, lanes) = Store::new(alloc, 2, words, 2, &image, last)?;
+    let (store, seat, lanes) = Store::new(alloc, regions, words, 2, &image, last)?;
     Ok((store, Loader::new(bench, words, seat), lanes))
 }
 
@@ -147,7 +160,7 @@ const FORMS: [(&[u8], &[u8]); 14] = [
 #[test]
 fn lines_of_every_form(rt: HostRuntime) -> Result<(), Fail> {
     let alloc = rt.alloc();
-    let (store, mut loader, _) = store_of(alloc, two_buses(alloc)?, 1_024, u32::MAX)?;
+    let (store, mut loader, _) = store_of(alloc, two_buses(alloc)?, 2, 1_024, u32::MAX)?;
     are_answered(&rt, alloc, &store, &mut loader, &FORMS)
 }
 
@@ -163,16 +176,16 @@ const FILES: [(&[u8], &[u8]); 6] = [
 #[test]
 fn files_are_read_before_any_is_judged(rt: HostRuntime) -> Result<(), Fail> {
     let alloc = rt.alloc();
-    let (store, mut loader, _) = store_of(alloc, two_buses(alloc)?, 1_024, u32::MAX)?;
+    let (store, mut loader, _) = store_of(alloc, two_buses(alloc)?, 2, 1_024, u32::MAX)?;
     are_answered(&rt, alloc, &store, &mut loader, &FILES)
 }
 
 #[test]
 fn versions_up_to_the_last_and_rooms(rt: HostRuntime) -> Result<(), Fail> {
     let alloc = rt.alloc();
-    let (store, mut loader, _) = store_of(alloc, one_bus(alloc)?, 66, 2)?;
+    let (store, mut loader, _) = store_of(alloc, one_bus(alloc)?, 2, 66, 2)?;
     are_answered(&rt, alloc, &store, &mut loader, &SPENT)?;
-    let (store, mut loader, _) = store_of(alloc, one_bus(alloc)?, 65, 2)?;
+    let (store, mut loader, _) = store_of(alloc, one_bus(alloc)?, 2, 65, 2)?;
     are_answered(
         &rt,
         alloc,
@@ -191,20 +204,114 @@ const SPENT: [(&[u8], &[u8]); 5] = [
 ];
 
 #[test]
-fn a_load_is_busy_while_a_lane_holds_the_region(rt: HostRuntime) -> Result<(), Fail> {
+fn nothing_is_published_where_the_last_version_is_0(rt: HostRuntime) -> Result<(), Fail> {
     let alloc = rt.alloc();
-    let (store, mut loader, mut lanes) = store_of(alloc, one_bus(alloc)?, 66, u32::MAX)?;
-    let files = files(alloc)?;
-    let mut library = MemLibrary::new(&files, Vec::new(alloc));
-    let lane = lanes.pop().ok_or("two lanes")?;
+    let (store, mut loader, _) = store_of(alloc, one_bus(alloc)?, 2, 66, 0)?;
+    let rows: [(&[u8], &[u8]); 1] = [(b"LOAD A a.dbc", b"spent\n")];
+    are_answered(&rt, alloc, &store, &mut loader, &rows)
+}
+
+const AGAIN: [(&[u8], &[u8]); 3] = [
+    (b"LOAD A a.dbc", b"ok 1\n"),
+    (b"LOAD A a.dbc", b"ok 2\n"),
+    (b"LOAD A a.dbc", b"ok 3\n"),
+];
+
+#[test]
+fn regions_are_used_again_under_idle_lanes(rt: HostRuntime) -> Result<(), Fail> {
+    let alloc = rt.alloc();
+    let (store, mut loader, lanes) = store_of(alloc, one_bus(alloc)?, 2, 66, u32::MAX)?;
+    are_answered(&rt, alloc, &store, &mut loader, &AGAIN)?;
+    let shelf = store.gather(loader.into_seat(), lanes);
+    assert!(rt; shelf.version == 3);
+    Ok(())
+}
+
+/// The two lanes of a store.
+fn two_lanes(store: &Store, lanes: Vec<LaneSeat>) -> Result<(LaneSeat, LaneSeat), Fail>
+    requires { AreLanesOf store.now 2 lanes.items }
+    ensures { IfOk result (λ r. IsLaneOf store.now r.0 × IsLaneOf store.now r.1) }
+{
+    let _ = store;
+    let mut lanes = lanes;
+    let second = lanes.pop().ok_or("two lanes")?;
+    let first = lanes.pop().ok_or("two lanes")?;
+    Ok((first, second))
+}
+
+/// While a lane holds the first region of two, which it took under epoch 0, no second version is published.
+fn is_busy_until_let_go(
+    rt: &impl Abort,
+    alloc: Global,
+    store: &Store,
+    loader: &mut Loader,
+    lane: LaneSeat,
+    busy: &[u8],
+) -> Result<(), Fail>
+    requires loader { IsLoaderOn store.now loader.old }
+    requires lane { IsLaneOf store.now lane }
+{
     let pin = store.pin(lane, 1);
-    let first = answer(alloc, &store, &mut loader, &mut library, b"LOAD A a.dbc")?;
-    assert_eq!(rt; first.as_slice(), b"ok 1\n".as_slice());
-    let second = answer(alloc, &store, &mut loader, &mut library, b"LOAD A a.dbc")?;
-    assert_eq!(rt; second.as_slice(), b"busy 0 1 1\n".as_slice());
+    let held: [(&[u8], &[u8]); 2] = [(b"LOAD A a.dbc", b"ok 1\n"), (b"LOAD A a.dbc", busy)];
+    are_answered(rt, alloc, store, loader, &held)?;
     pin.unpin();
-    let third = answer(alloc, &store, &mut loader, &mut library, b"LOAD A a.dbc")?;
-    assert_eq!(rt; third.as_slice(), b"ok 2\n".as_slice());
+    let free: [(&[u8], &[u8]); 1] = [(b"LOAD A a.dbc", b"ok 2\n")];
+    are_answered(rt, alloc, store, loader, &free)
+}
+
+#[test]
+fn a_load_is_busy_while_a_lane_holds_the_other_region(rt: HostRuntime) -> Result<(), Fail> {
+    let alloc = rt.alloc();
+    let (store, mut loader, lanes) = store_of(alloc, one_bus(alloc)?, 2, 66, u32::MAX)?;
+    let (first, _) = two_lanes(&store, lanes)?;
+    is_busy_until_let_go(&rt, alloc, &store, &mut loader, first, b"busy 0 0 1\n")?;
+    let (store, mut loader, lanes) = store_of(alloc, one_bus(alloc)?, 2, 66, u32::MAX)?;
+    let (_, second) = two_lanes(&store, lanes)?;
+    is_busy_until_let_go(&rt, alloc, &store, &mut loader, second, b"busy 0 1 1\n")
+}
+
+/// Version 0 is held by lane 1, whose pin is 1, and version 1 in region 1 by lane 0, whose pin is 2.
+#[test]
+fn a_load_is_busy_with_the_lane_of_each_region(rt: HostRuntime) -> Result<(), Fail> {
+    let alloc = rt.alloc();
+    let (store, mut loader, lanes) = store_of(alloc, one_bus(alloc)?, 3, 66, u32::MAX)?;
+    let (first, second) = two_lanes(&store, lanes)?;
+    let old = store.pin(second, 1);
+    are_answered(
+        &rt,
+        alloc,
+        &store,
+        &mut loader,
+        &[(b"LOAD A a.dbc", b"ok 1\n")],
+    )?;
+    let new = store.pin(first, 1);
+    let held: [(&[u8], &[u8]); 2] = [
+        (b"LOAD A a.dbc", b"ok 2\n"),
+        (b"LOAD A a.dbc", b"busy 0 1 1 1 0 2\n"),
+    ];
+    are_answered(&rt, alloc, &store, &mut loader, &held)?;
+    old.unpin();
+    are_answered(
+        &rt,
+        alloc,
+        &store,
+        &mut loader,
+        &[(b"LOAD A a.dbc", b"ok 3\n")],
+    )?;
+    new.unpin();
+    Ok(())
+}
+
+#[test]
+fn a_database_above_the_limit_is_refused(rt: HostRuntime) -> Result<(), Fail> {
+    let alloc = rt.alloc();
+    let mut file = file_named(alloc, "a.dbc", b"")?;
+    file.content = vec![in alloc; b'\n'; 16_777_217]?;
+    let files = vec![in alloc; file]?;
+    let mut library = MemLibrary::new(&files, Vec::new(alloc));
+    let (store, mut loader, _) = store_of(alloc, one_bus(alloc)?, 2, 66, u32::MAX)?;
+    let reply = answer(alloc, &store, &mut loader, &mut library, b"LOAD A a.dbc")?;
+    assert_eq!(rt; reply.as_slice(), b"refused A long\n".as_slice());
     Ok(())
 }
 
@@ -222,7 +329,7 @@ const CALLS: [(u64, &[u8]); 7] = [
 fn fail_in_turn(rt: &impl Abort, alloc: Global, rows: &[(u64, &[u8])]) -> Result<(), Fail> {
     let files = files(alloc)?;
     for (call, wanted) in rows {
-        let (store, mut loader, _) = store_of(alloc, two_buses(alloc)?, 1_024, u32::MAX)?;
+        let (store, mut loader, _) = store_of(alloc, two_buses(alloc)?, 2, 1_024, u32::MAX)?;
         let mut library = MemLibrary::new(&files, Vec::from_slice(alloc, &[*call])?);
         let line = b"LOAD A a.dbc L l.ldf";
         let reply = answer(alloc, &store, &mut loader, &mut library, line)?;
@@ -262,7 +369,7 @@ fn pairs(alloc: Global, count: u8, bytes: usize) -> Result<Vec<u8>, AllocError> 
 #[test]
 fn limits_of_a_line(rt: HostRuntime) -> Result<(), Fail> {
     let alloc = rt.alloc();
-    let (store, mut loader, _) = store_of(alloc, one_bus(alloc)?, 66, u32::MAX)?;
+    let (store, mut loader, _) = store_of(alloc, one_bus(alloc)?, 2, 66, u32::MAX)?;
     are_answered(
         &rt,
         alloc,
@@ -287,7 +394,7 @@ fn lines_of_other_replies(rt: HostRuntime) -> Result<(), Fail> {
     Reply::Memory.text(&names(alloc)?, &mut out)?;
     Reply::ReadFault { bus: 2 }.text(&names(alloc)?, &mut out)?;
     assert_eq!(rt; out.as_slice(), b"memory\nread 2\n".as_slice());
-    let (store, loader, lanes) = store_of(alloc, one_bus(alloc)?, 66, 0)?;
+    let (store, loader, lanes) = store_of(alloc, one_bus(alloc)?, 2, 66, 0)?;
     let shelf = store.gather(loader.into_seat(), lanes);
     assert!(rt; shelf.version == 0);
     Ok(())
