@@ -5,7 +5,7 @@ use Rattle.std.proofs.lemmas.List.{append-nil, length-append, take-append-drop}
 use Rattle.std.proofs.Math.Seq.{take-append_seam, take-append-add, take-length}
 use Rattle.bench_file.specs.LineMeaning.{LineMeaning}
 use Rattle.bench_file.specs.PlanOf.{KeepRules, IsFirstFault}
-use Rattle.bench_file.proofs.RuleLaws.{rules_of_front, rules_of_none, keep_or_break}
+use Rattle.bench_file.proofs.RuleLaws.{rules_of_prefix, rules_of_none, keep_or_break}
 
 take_take : (m n : ℕ) (xs : List LineMeaning) → m ≤ n → take m (take n xs) ≡ take m xs
 take_take zero n xs le = refl
@@ -17,7 +17,7 @@ take_take (suc m) (suc n) (x ∷ xs) le = ap (λ ys. x ∷ ys) (take_take m n xs
 pub rules_of_take : (m : ℕ) (lines : List LineMeaning) → KeepRules lines → KeepRules (take m lines)
 rules_of_take m lines k =
     let P : List LineMeaning → Type 0 = λ ls. KeepRules ls in
-    rules_of_front (take m lines) (drop m lines) (subst P (sym (take-append-drop m lines)) k)
+    rules_of_prefix (take m lines) (drop m lines) (subst P (sym (take-append-drop m lines)) k)
 
 rules_of_fewer : (m n : ℕ) (lines : List LineMeaning) → m ≤ n → KeepRules (take n lines) → KeepRules (take m lines)
 rules_of_fewer m n lines le k =

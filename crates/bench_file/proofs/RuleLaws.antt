@@ -190,19 +190,19 @@ keep_or_break lines (SetsNumber s n) k =
     ]
 
 -- the lines before any of them keep the rules, too
-front_pairs : (xs ys : List PlannedBus) → AllPairs NamesDiffer (xs ++ ys) → AllPairs NamesDiffer xs
-front_pairs xs ys pairs = λ i j d before within.
+prefix_pairs : (xs ys : List PlannedBus) → AllPairs NamesDiffer (xs ++ ys) → AllPairs NamesDiffer xs
+prefix_pairs xs ys pairs = λ i j d before within.
     let all : j < length (xs ++ ys) = omega (arith, length-append xs ys) in
     rw (← get_or-append xs ys d i (omega arith), ← get_or-append xs ys d j within) (pairs i j d before all)
 
-pub rules_of_front : (lines more : List LineMeaning) → KeepRules (lines ++ more) → KeepRules lines
-rules_of_front lines more k =
+pub rules_of_prefix : (lines more : List LineMeaning) → KeepRules (lines ++ more) → KeepRules lines
+rules_of_prefix lines more k =
     let split : buses_of (lines ++ more) ≡ buses_of lines ++ buses_of more = flat_map-append bus_in lines more in
     let within : length (buses_of lines ++ buses_of more) ≤ most_buses = rw split at k.buses in
     record {
       forms = (and_parts (list_all has_form lines) (list_all has_form more) (sym (list_all-append has_form lines more) ∙ k.forms)).0;
       buses = omega (arith, length-append (buses_of lines) (buses_of more), within);
-      names = front_pairs (buses_of lines) (buses_of more) (rw split at k.names);
+      names = prefix_pairs (buses_of lines) (buses_of more) (rw split at k.names);
       once = λ s.
           let cut : numbers_of s (lines ++ more) ≡ numbers_of s lines ++ numbers_of s more = flat_map-append (number_in s) lines more in
           let few : length (numbers_of s lines ++ numbers_of s more) ≤ 1 = rw cut at (k.once s) in

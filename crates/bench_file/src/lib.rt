@@ -1,6 +1,6 @@
-//! The bench file: which buses there are, where their logs and databases stand, and the numbers of a server.
+//! The bench file: which buses there are, where their logs and databases are, and the numbers of a server.
 //!
-//! A bench file is text, a line for each bus and for each number. The crate stands on `text_words` for lines and
+//! A bench file is text, a line for each bus and for each number. The crate builds on `text_words` for lines and
 //! words, on `byte_forms` for names and numbers and on `bench_model` for texts and kinds of buses; the tool and the
 //! server read their bench by it.
 //!

@@ -109,7 +109,7 @@ fn bus_line(words: &[u8]) -> Option<ReadLine<'_>>
     }
 }
 
-/// Whether a zero stands before other digits.
+/// Whether a zero is before other digits.
 fn has_leading_zero(digits: &[u8]) -> bool
     ensures { result ≡ has_leading_zero digits.now }
 {

@@ -46,12 +46,12 @@ fn have_numbers(rt: &impl Abort, alloc: Global, rows: &[NumbersRow]) -> Result<(
 /// A text of a line, a byte given so many times, and further lines.
 fn filled(
     alloc: Global,
-    front: &[u8],
+    prefix: &[u8],
     byte: u8,
     count: usize,
     end: &[u8],
 ) -> Result<Vec<u8>, Fail> {
-    let mut text = Vec::from_slice(alloc, front)?;
+    let mut text = Vec::from_slice(alloc, prefix)?;
     for _ in 0..count {
         text.push(byte)?;
     }
@@ -203,7 +203,7 @@ fn is_bus(
 }
 
 #[test]
-fn buses_stand_in_order_with_their_files(rt: HostRuntime) -> Result<(), Fail> {
+fn buses_come_in_order_with_their_files(rt: HostRuntime) -> Result<(), Fail> {
     let text =
         b"bus A can a.log a.dbc\n# J1939\n bus  Truck_2 j1939\tt.log\r\nbus L lin l\xC3\xA9.log l.ldf";
     let plan = read_plan(rt.alloc(), text)?;

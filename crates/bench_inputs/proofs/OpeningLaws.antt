@@ -29,7 +29,7 @@ pub asks_log : (was now : LibraryState) (name : List ℕ) → now.files ≡ was.
     → now.strays ≡ strays_after was.files name was.strays → Asks was (name ∷ []) now
 asks_log was now name files opens reads strays = record { files = files; opens = opens; reads = omega arith; strays = strays }
 
--- what stands after so many buses
+-- what is after so many buses
 pub record Opened (before : LibraryState) (buses : List PlannedBus) (i : ℕ) (logs : List SourceState) (now : LibraryState) : Type 0 where
   pub asks : Asks before (log_names (take i buses)) now
   pub fresh : AllZip (IsFresh before.files) (log_names (take i buses)) logs

@@ -6,15 +6,15 @@ use Rattle.port_io.specs.Library.{strays_after}
 abbrev pub Files : Type 0
 Files = List (List ℕ × List ℕ)
 
--- the files where they are told, the two counts of faults, and how many calls named a file that is not there
+-- the files where they are known, the two counts of faults, and how many calls named a file that is not there
 pub record LibraryState : Type 0 where
   pub files : Option Files
   pub open_faults : ℕ
   pub more_faults : ℕ
   pub strays : ℕ
 
-abbrev pub library_told : Option Files → ℕ → ℕ → ℕ → LibraryState
-library_told files open_faults more_faults strays =
+abbrev pub library_state : Option Files → ℕ → ℕ → ℕ → LibraryState
+library_state files open_faults more_faults strays =
     record { files = files; open_faults = open_faults; more_faults = more_faults; strays = strays }
 
 -- the number of stray calls after calls for these names

@@ -16,11 +16,11 @@ use Rattle.bench_inputs.specs.declared.refused.FileRefused.TheVariants as file
 use Rattle.bench_inputs.specs.Asking.{Files, LibraryState, Asks, AsksFirst}
 use Rattle.bench_inputs.specs.BenchFiles.{HasBytes, HasFaultyPlan, HasDatabase, IsDatabaseOfBus, name_list, database_names}
 
--- a plan of some bytes, which are those of the named file where the files are told
+-- a plan of some bytes, which are those of the named file where the files are known
 pub record IsPlanOf (files : Option Files) (name : List ℕ) (plan : Plan) : Type 0 where
   pub bytes : List ℕ
   pub is_plan : IsPlan bytes plan
-  pub told : IfSome files (λ fs. HasBytes fs name bytes)
+  pub known : IfSome files (λ fs. HasBytes fs name bytes)
 
 -- the plan, or why there is none: the faulty line, a count that rose, or out of memory
 abbrev pub AnswersPlan : LibraryState → List ℕ → LibraryState → Result Plan BenchRefused → Type 0
@@ -81,8 +81,8 @@ ReadsDatabases before buses (Ok read) now = ReadsAll before buses read.items now
 ReadsDatabases before buses (Err why) now = StopsReading before buses why now
 
 -- what a log tells
-abbrev pub log_told : Option (List ℕ) → Option (List ℕ) → ℕ → Bool → SourceState
-log_told left taken read_faults ended = record { left = left; taken = taken; read_faults = read_faults; ended = ended }
+abbrev pub log_state : Option (List ℕ) → Option (List ℕ) → ℕ → Bool → SourceState
+log_state left taken read_faults ended = record { left = left; taken = taken; read_faults = read_faults; ended = ended }
 
 -- a log just opened, by what it tells
 abbrev pub IsFresh : Option Files → List ℕ → SourceState → Type 0

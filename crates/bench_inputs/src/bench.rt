@@ -1,6 +1,6 @@
 //! Reading the bench file.
 
-ghost use Rattle.bench_inputs.specs.Asking.{library_told};
+ghost use Rattle.bench_inputs.specs.Asking.{library_state};
 ghost use Rattle.bench_inputs.specs.Reading.{ReadsPlan};
 
 use crate::BenchRefused;
@@ -18,9 +18,9 @@ pub fn read_bench<B: Library>(
     name: &str,
 ) -> Result<Plan, BenchRefused>
     ensures { ReadsPlan
-        (library_told (B.files library.old) (B.open_faults library.old) (B.more_faults library.old) (B.strays library.old))
+        (library_state (B.files library.old) (B.open_faults library.old) (B.more_faults library.old) (B.strays library.old))
         name.now result
-        (library_told (B.files library.new) (B.open_faults library.new) (B.more_faults library.new) (B.strays library.new)) }
+        (library_state (B.files library.new) (B.open_faults library.new) (B.more_faults library.new) (B.strays library.new)) }
 {
     let bytes = match read_whole(alloc, library, name, LONGEST_FILE) {
         Ok(bytes) => bytes,

@@ -1,6 +1,6 @@
 //! Reading the databases, in order of buses.
 
-ghost use Rattle.bench_inputs.specs.Asking.{library_told};
+ghost use Rattle.bench_inputs.specs.Asking.{library_state};
 ghost use Rattle.bench_inputs.specs.Reading.{ReadsDatabase, ReadsDatabaseOf, ReadsDatabases};
 
 use crate::{DatabaseFile, FileRefused};
@@ -19,9 +19,9 @@ pub fn read_database<B: Library>(
     name: &str,
 ) -> Result<DatabaseFile, FileRefused>
     ensures { ReadsDatabase
-        (library_told (B.files library.old) (B.open_faults library.old) (B.more_faults library.old) (B.strays library.old))
+        (library_state (B.files library.old) (B.open_faults library.old) (B.more_faults library.old) (B.strays library.old))
         name.now result
-        (library_told (B.files library.new) (B.open_faults library.new) (B.more_faults library.new) (B.strays library.new)) }
+        (library_state (B.files library.new) (B.open_faults library.new) (B.more_faults library.new) (B.strays library.new)) }
 {
     match read_whole(alloc, library, name, LONGEST_DATABASE) {
         Ok(bytes) => Ok(DatabaseFile::Bytes {
@@ -41,9 +41,9 @@ fn read_database_of<B: Library>(
     bus: &PlannedBus,
 ) -> Result<DatabaseFile, FileRefused>
     ensures { ReadsDatabaseOf
-        (library_told (B.files library.old) (B.open_faults library.old) (B.more_faults library.old) (B.strays library.old))
+        (library_state (B.files library.old) (B.open_faults library.old) (B.more_faults library.old) (B.strays library.old))
         bus.now result
-        (library_told (B.files library.new) (B.open_faults library.new) (B.more_faults library.new) (B.strays library.new)) }
+        (library_state (B.files library.new) (B.open_faults library.new) (B.more_faults library.new) (B.strays library.new)) }
 {
     match &bus.database {
         Some(name) => read_database(alloc, library, name.as_str()),
@@ -58,9 +58,9 @@ pub fn read_databases<B: Library>(
     buses: &[PlannedBus],
 ) -> Result<Vec<DatabaseFile>, FileRefused>
     ensures { ReadsDatabases
-        (library_told (B.files library.old) (B.open_faults library.old) (B.more_faults library.old) (B.strays library.old))
+        (library_state (B.files library.old) (B.open_faults library.old) (B.more_faults library.old) (B.strays library.old))
         buses.now result
-        (library_told (B.files library.new) (B.open_faults library.new) (B.more_faults library.new) (B.strays library.new)) }
+        (library_state (B.files library.new) (B.open_faults library.new) (B.more_faults library.new) (B.strays library.new)) }
 {
     let mut databases = Vec::new(alloc);
     for bus in buses {

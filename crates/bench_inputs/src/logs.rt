@@ -1,9 +1,9 @@
 //! Opening the logs, in order of buses.
 
 ghost use Rattle.std.specs.Prelude.{◌≡◌, ◌≤◌, [], length, map, vec_len, vec_capacity, OnOk};
-ghost use Rattle.bench_inputs.specs.Asking.{library_told};
+ghost use Rattle.bench_inputs.specs.Asking.{library_state};
 ghost use Rattle.bench_inputs.specs.BenchFiles.{log_names};
-ghost use Rattle.bench_inputs.specs.Reading.{log_told, OpensLogs};
+ghost use Rattle.bench_inputs.specs.Reading.{log_state, OpensLogs};
 
 use crate::LogRefused;
 use bench_file::PlannedBus;
@@ -19,10 +19,10 @@ pub fn open_logs<B: Library>(
     requires empty { vec_len logs.old ≡ 0 }
     requires room { length buses.now ≤ vec_capacity logs.old }
     ensures opens { OpensLogs
-        (library_told (B.files library.old) (B.open_faults library.old) (B.more_faults library.old) (B.strays library.old))
+        (library_state (B.files library.old) (B.open_faults library.old) (B.more_faults library.old) (B.strays library.old))
         (log_names buses.now) result
-        (map (λ log. log_told (B.Log.left log) (B.Log.taken log) (B.Log.read_faults log) (B.Log.ended log)) logs.new.items)
-        (library_told (B.files library.new) (B.open_faults library.new) (B.more_faults library.new) (B.strays library.new)) }
+        (map (λ log. log_state (B.Log.left log) (B.Log.taken log) (B.Log.read_faults log) (B.Log.ended log)) logs.new.items)
+        (library_state (B.files library.new) (B.open_faults library.new) (B.more_faults library.new) (B.strays library.new)) }
     ensures count { OnOk result (vec_len logs.new ≡ length buses.now) }
 {
     for bus in buses {

@@ -66,8 +66,8 @@ asks_first before was now pairs i pair within is a b = record {
 }
 
 -- the first names of names that are all there
-pub front_there : (files : Files) (asked unasked names : List (List ℕ)) → asked ++ unasked ≡ names → All (λ name. IsSome (named files name)) names → All (λ name. IsSome (named files name)) asked
-front_there files asked unasked names parted there = λ k d within.
+pub prefix_there : (files : Files) (asked unasked names : List (List ℕ)) → asked ++ unasked ≡ names → All (λ name. IsSome (named files name)) names → All (λ name. IsSome (named files name)) asked
+prefix_there files asked unasked names parted there = λ k d within.
     let inside : k < length names = omega (arith, length-append asked unasked, ap length parted) in
     let same : get_or names k d ≡ get_or asked k d = ap (λ xs. get_or xs k d) (sym parted) ∙ get_or-append asked unasked d k within in
     let P : List ℕ → Type 0 = λ name. IsSome (named files name) in

@@ -31,7 +31,7 @@ use Rattle.bench_loader.specs.LineView.{ReadsLoad}
 use Rattle.bench_loader.specs.LoadView.{FindsTargets, StopsAtFile, ReadsFiles, JudgesFiles}
 use Rattle.bench_loader.specs.ReplyView.{reply_of_line, reply_of_bus, reply_of_file, reply_of_bench}
 use Rattle.bench_loader.specs.CommandView.{IsEarlyReply, FindsNext}
-use Rattle.bench_loader.proofs.AskLaws.{front_there, strays_rise}
+use Rattle.bench_loader.proofs.AskLaws.{prefix_there, strays_rise}
 
 -- calls for names that are all there count no strays, as the law of the inputs says
 abbrev pub CountsNone : Type 0
@@ -47,7 +47,7 @@ all_named P (p ∷ ps) h (suc k) d within = all_named P ps (λ i e inside. h (su
 strays_kept : (L : CountsNone) (files : Option Files) (asked names unasked : List (List ℕ)) (n m : ℕ) → asked ++ unasked ≡ names → m ≡ strays_over files asked n
     → IfSome files (λ fs. All (λ name. IsSome (named fs name)) names → m ≡ n)
 strays_kept L None asked names unasked n m parted is = tt
-strays_kept L (Some fs) asked names unasked n m parted is = λ there. is ∙ L fs asked n (front_there fs asked unasked names parted there)
+strays_kept L (Some fs) asked names unasked n m parted is = λ there. is ∙ L fs asked n (prefix_there fs asked unasked names parted there)
 
 weaker : (files : Option Files) (bench : Bench) (line : List ℕ) (pairs : List Pair) (targets : List Target) (n m : ℕ) → NamesBuses bench.buses line pairs targets
     → IfSome files (λ fs. All (λ name. IsSome (named fs name)) (file_names pairs) → m ≡ n) → IfSome files (λ fs. HasAllFiles fs bench line → m ≡ n)

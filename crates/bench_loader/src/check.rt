@@ -1,7 +1,7 @@
 //! The check of one file.
 
 ghost use Rattle.std.specs.Prelude.{◌≡◌};
-ghost use Rattle.bench_inputs.specs.Asking.{library_told};
+ghost use Rattle.bench_inputs.specs.Asking.{library_state};
 ghost use Rattle.bench_loader.specs.Checking.{kind_of_name, ChecksFile};
 
 use crate::{DatabaseFault, JudgeRefused, judge_database};
@@ -70,9 +70,9 @@ pub fn check_file<B: Library>(
     name: &str,
 ) -> Result<Valid, CheckRefused>
     ensures { ChecksFile
-        (library_told (B.files library.old) (B.open_faults library.old) (B.more_faults library.old) (B.strays library.old))
+        (library_state (B.files library.old) (B.open_faults library.old) (B.more_faults library.old) (B.strays library.old))
         name.now result
-        (library_told (B.files library.new) (B.open_faults library.new) (B.more_faults library.new) (B.strays library.new)) }
+        (library_state (B.files library.new) (B.open_faults library.new) (B.more_faults library.new) (B.strays library.new)) }
 {
     let file = read_database(alloc, library, name)?;
     let valid = judge_database(alloc, kind_of_name(name), &file)?;

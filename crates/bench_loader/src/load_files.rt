@@ -2,7 +2,7 @@
 
 ghost use Rattle.std.specs.Prelude.{◌≡◌, ◌<◌, length, zip, slice_index_or};
 ghost use Rattle.bench_loader.specs.declared.targets.Target.{Target};
-ghost use Rattle.bench_inputs.specs.Asking.{library_told};
+ghost use Rattle.bench_inputs.specs.Asking.{library_state};
 ghost use Rattle.bench_loader.specs.LoadView.{ReadsFiles, JudgesFiles, unread_of};
 
 use crate::BenchRefused;
@@ -65,9 +65,9 @@ pub(crate) fn read_files<B: Library>(
 ) -> Result<Vec<DatabaseFile>, Unread>
     requires { length targets.now ≡ length pairs.now }
     ensures { ReadsFiles
-        (library_told (B.files library.old) (B.open_faults library.old) (B.more_faults library.old) (B.strays library.old))
+        (library_state (B.files library.old) (B.open_faults library.old) (B.more_faults library.old) (B.strays library.old))
         pairs.now targets.now result
-        (library_told (B.files library.new) (B.open_faults library.new) (B.more_faults library.new) (B.strays library.new)) }
+        (library_state (B.files library.new) (B.open_faults library.new) (B.more_faults library.new) (B.strays library.new)) }
 {
     let mut files = Vec::new(alloc);
     for (i, pair) in pairs.iter().enumerate() {

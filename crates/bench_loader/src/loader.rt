@@ -1,7 +1,7 @@
 //! The loader: it answers commands, and publishes a bench with new databases as one version.
 
 ghost use Rattle.std.specs.Prelude.{◌≡◌, ℕ, List};
-ghost use Rattle.bench_inputs.specs.Asking.{library_told};
+ghost use Rattle.bench_inputs.specs.Asking.{library_state};
 ghost use Rattle.bench_model.specs.ValidBench.{IsValidBench};
 ghost use Rattle.bench_loader.specs.Commands.{Answers};
 ghost use Rattle.bench_loader.specs.LoaderView.{state_of, limits_of, IsFirst, HasPublished, IsLoaderOn};
@@ -54,9 +54,9 @@ fn next_bench<B: Library>(
 ) -> Result<Bench, Reply>
     requires valid { IsValidBench bench.now }
     ensures { FindsNext
-        (library_told (B.files library.old) (B.open_faults library.old) (B.more_faults library.old) (B.strays library.old))
+        (library_state (B.files library.old) (B.open_faults library.old) (B.more_faults library.old) (B.strays library.old))
         bench.now line.now result
-        (library_told (B.files library.new) (B.open_faults library.new) (B.more_faults library.new) (B.strays library.new)) }
+        (library_state (B.files library.new) (B.open_faults library.new) (B.more_faults library.new) (B.strays library.new)) }
 {
     files_that_are_there();
     let pairs = read_load(alloc, line)?;
@@ -121,9 +121,9 @@ impl Loader {
         requires loader { IsLoaderOn store.now self.old }
         ensures loader { IsLoaderOn store.now self.new }
         ensures answers { Answers (limits_of store.now)
-            (library_told (B.files library.old) (B.open_faults library.old) (B.more_faults library.old) (B.strays library.old))
+            (library_state (B.files library.old) (B.open_faults library.old) (B.more_faults library.old) (B.strays library.old))
             (state_of self.old) line.now (reply_of result)
-            (library_told (B.files library.new) (B.open_faults library.new) (B.more_faults library.new) (B.strays library.new))
+            (library_state (B.files library.new) (B.open_faults library.new) (B.more_faults library.new) (B.strays library.new))
             (state_of self.new) }
     {
         let next = next_bench(alloc, &self.bench, line, library)?;
@@ -143,9 +143,9 @@ impl Loader {
         requires loader { IsLoaderOn store.now self.old }
         ensures loader { IsLoaderOn store.now self.new }
         ensures answers { Answers (limits_of store.now)
-            (library_told (B.files library.old) (B.open_faults library.old) (B.more_faults library.old) (B.strays library.old))
+            (library_state (B.files library.old) (B.open_faults library.old) (B.more_faults library.old) (B.strays library.old))
             (state_of self.old) line.now result
-            (library_told (B.files library.new) (B.open_faults library.new) (B.more_faults library.new) (B.strays library.new))
+            (library_state (B.files library.new) (B.open_faults library.new) (B.more_faults library.new) (B.strays library.new))
             (state_of self.new) }
     {
         match self.load(alloc, line, library, store) {

@@ -18,11 +18,11 @@ pub reversed_bytes : (bytes : List ℕ) → AreBytes bytes → AreBytes (reverse
 reversed_bytes bytes h i = reversed_at bytes h i (cases_lt i (length bytes))
 
 -- so are those before a place, and those from there on
-pub front_bytes : (bytes : List ℕ) (n : ℕ) → AreBytes bytes → AreBytes (take n bytes)
-front_bytes bytes zero h i = omega arith
-front_bytes [] (suc n) h i = omega arith
-front_bytes (b ∷ bytes) (suc n) h zero = h 0
-front_bytes (b ∷ bytes) (suc n) h (suc i) = front_bytes bytes n (λ k. h (suc k)) i
+pub prefix_bytes : (bytes : List ℕ) (n : ℕ) → AreBytes bytes → AreBytes (take n bytes)
+prefix_bytes bytes zero h i = omega arith
+prefix_bytes [] (suc n) h i = omega arith
+prefix_bytes (b ∷ bytes) (suc n) h zero = h 0
+prefix_bytes (b ∷ bytes) (suc n) h (suc i) = prefix_bytes bytes n (λ k. h (suc k)) i
 
 pub rest_bytes : (bytes : List ℕ) (n : ℕ) → AreBytes bytes → AreBytes (drop n bytes)
 rest_bytes bytes n h i = rw (get_or-drop n bytes i 0) (h (n + i))

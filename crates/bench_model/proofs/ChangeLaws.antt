@@ -23,7 +23,7 @@ first_found p (y ∷ ys) (suc k) x h e passes before =
     let first : p y ≡ false = before zero (omega arith) in
     rw first (first_found p ys k x (omega arith) e passes (λ j g. before (suc j) (omega arith)))
 
--- what stands at the first place that passes is found
+-- what is at the first place that passes is found
 pub found_at : {X : Type 0} (p : X → Bool) (xs : List X) (k : ℕ) (x : X) → position p xs ≡ Some k → x ≡ get_or xs k x → find p xs ≡ Some x
 found_at p xs k x at e =
     let first = position-Some p xs k x at in

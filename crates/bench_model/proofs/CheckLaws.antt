@@ -19,7 +19,7 @@ IsFirstOf-append xs ys Memory h = tt
 IsFirstOf-append [] ys (At why message signal) h = cc
 IsFirstOf-append (x ∷ xs) ys (At why message signal) h = h
 
--- or where nothing stands before that list
+-- or where nothing is before that list
 pub IsFirstOf-after : (xs ys : List CheckFault) (e : CheckFault) → xs ≡ [] → IsFirstOf ys e →
     IsFirstOf (xs ++ ys) e
 IsFirstOf-after xs ys e none h = rw none h

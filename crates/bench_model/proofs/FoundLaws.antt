@@ -46,7 +46,7 @@ IfSome-matching P kind.Lin (ask.Group pgn) ms h = tt
 pub from_IfSome : {X : Type 0} (P : X → Type 0) (o : Option X) (x : X) → Some x ≡ o → IfSome o P → P x
 from_IfSome P o x e h = rw (← e) at h
 
--- the meaning on a bus that stands at this place
+-- the meaning on a bus that is at this place
 pub meaning_at : (bench : Bench) (place : ℕ) (bus : Bus) (buses : List Bus) (messages : List Message) (asked : Ask) (bytes : List ℕ) (o : Option Message) →
     place < length bench.buses → buses ≡ bench.buses → bus ≡ get_or buses place bus → messages ≡ bus.database.messages → o ≡ matching bus.kind asked messages →
     bench_meaning bench place asked bytes ≡ option_map (message_meaning bytes) o

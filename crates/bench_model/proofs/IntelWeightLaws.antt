@@ -1,4 +1,4 @@
--- A little-endian signal's bits stand at its start and upwards, and its number is the sum of their weights.
+-- A little-endian signal's bits are at its start and upwards, and its number is the sum of their weights.
 use Rattle.std.proofs.Common.{◌≡◌, ◌∙◌, ap, ℕ, zero, suc, ◌+◌, ◌-◌, List, [], ◌∷◌, ◌++◌, map, refl, arith}
 use Rattle.std.specs.Prelude.{reverse}
 use Rattle.std.proofs.lemmas.List.{reverse-append}

@@ -7,11 +7,11 @@ use Rattle.bench_model.specs.declared.database.Order.TheVariants.{Intel, Motorol
 use Rattle.bench_model.specs.Raw.{bit, weight}
 use Rattle.bench_model.specs.Weights.{intel_sum, upwards, as_read}
 use Rattle.bench_model.specs.Shifts.{AreBytes, little_endian, big_endian, end_of, shifted_bits}
-use Rattle.bench_model.proofs.ByteNumberLaws.{front_bytes, rest_bytes}
+use Rattle.bench_model.proofs.ByteNumberLaws.{prefix_bytes, rest_bytes}
 use Rattle.bench_model.proofs.ShiftLaws.{sum_by_shift, read_by_shift, last_read}
 
 window_bytes : (a m : ℕ) (bytes : List ℕ) → AreBytes bytes → AreBytes (take m (drop a bytes))
-window_bytes a m bytes h = front_bytes (drop a bytes) m (rest_bytes bytes a h)
+window_bytes a m bytes h = prefix_bytes (drop a bytes) m (rest_bytes bytes a h)
 
 window_bit : (bytes : List ℕ) (a m p : ℕ) → p / 8 < m → bit (take m (drop a bytes)) p ≡ bit bytes (8 * a + p)
 window_bit bytes a m p h =

@@ -10,8 +10,8 @@ use Rattle.bench_model.specs.declared.database.Signal.{Signal}
 abbrev pub bit : List ℕ → ℕ → ℕ
 bit bytes p = (slice_index bytes (p / 8) / 2 ^ (p % 8)) % 2
 
--- the place of the most significant bit: in Intel order the least significant bit stands at start and
--- the later ones at start + 1, start + 2 and so on; in Motorola order the most significant one stands at start
+-- the place of the most significant bit: in Intel order the least significant bit is at start and
+-- the later ones at start + 1, start + 2 and so on; in Motorola order the most significant one is at start
 abbrev pub first_place : Order → ℕ → ℕ → ℕ
 first_place Intel start size = start + size - 1
 first_place Motorola start size = start

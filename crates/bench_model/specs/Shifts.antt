@@ -26,7 +26,7 @@ abbrev pub end_of : Order → ℕ → ℕ → ℕ
 end_of Intel start size = start + size
 end_of Motorola start size = as_read start + size
 
--- a signal's bits: the number of the bytes shifted right by what stands below them, and so many bits of that;
+-- a signal's bits: the number of the bytes shifted right by what is below them, and so many bits of that;
 -- as 0|16 in Intel order of A0 0F is 4000, and 7|16 in Motorola order of 12 34 is 4660
 abbrev pub shifted_bits : Order → ℕ → ℕ → List ℕ → ℕ
 shifted_bits Intel start size bytes = little_endian bytes / 2 ^ start % 2 ^ size

@@ -9,7 +9,7 @@ ghost use Rattle.bench_model.specs.Raw.{bit, first_place, places, weight, is_wit
 ghost use Rattle.bench_model.specs.Weights.{intel_sum, upwards, as_read};
 ghost use Rattle.bench_model.specs.Shifts.{AreBytes, little_endian, big_endian, end_of, shifted_bits, signed_number, shifted_value};
 
-/// The bits of a little-endian signal stand at `start`, `start + 1` and so on, and its number is the sum of their
+/// The bits of a little-endian signal are at `start`, `start + 1` and so on, and its number is the sum of their
 /// weights: the bit at `start + t` weighs `2^t`.
 pub fn intel_weights()
     ensures places { (start n : ℕ) → reverse (places Intel start n) ≡ upwards start n }
@@ -24,7 +24,7 @@ pub fn motorola_places()
 
 /// The bytes as one number, byte by byte as they are read.
 pub fn bytes_as_number()
-    ensures front { (bytes : List ℕ) (n : ℕ) → AreBytes bytes → AreBytes (take n bytes) }
+    ensures prefix { (bytes : List ℕ) (n : ℕ) → AreBytes bytes → AreBytes (take n bytes) }
     ensures rest { (bytes : List ℕ) (n : ℕ) → AreBytes bytes → AreBytes (drop n bytes) }
     ensures below { (bytes : List ℕ) → AreBytes bytes → little_endian bytes < 256 ^ length bytes }
     ensures big_below { (bytes : List ℕ) → AreBytes bytes → big_endian bytes < 256 ^ length bytes }

@@ -2,7 +2,7 @@
 //! the records and items that decoding gives.
 //!
 //! Readers of databases make its values and hand them to `check`; decoders, rings, images and printers speak of its
-//! types. It stands on `exact_scale` (scalings and exact values) and `multiplex_tree` (lists, and which signals are
+//! types. It builds on `exact_scale` (scalings and exact values) and `multiplex_tree` (lists, and which signals are
 //! active). Faster decoders are to be proved equal to `Bench::plain`.
 //!
 //! Main theorem: unless memory runs out, `Bench::plain` gives exactly the meaning of a frame's bytes: the message that

@@ -8,7 +8,7 @@ ghost use Rattle.bench_model.specs.Decodable.{IsDecodableSignal};
 use crate::sizes::{LAST_START, MOST_BITS};
 use crate::{Order, Signal};
 
-/// Where a signal's most significant bit stands.
+/// Where a signal's most significant bit is.
 fn first_place(order: Order, start: u32, size: u32) -> u32
     requires start { start ≤ LAST_START }
     requires some_bits { 1 ≤ size }
@@ -22,7 +22,7 @@ fn first_place(order: Order, start: u32, size: u32) -> u32
     }
 }
 
-/// Where the next less significant bit stands.
+/// Where the next less significant bit is.
 fn next_place(order: Order, place: u32) -> u32
     requires { place + 15 < 2 ^ 32 }
     ensures place { result ≡ next_of order place }

@@ -6,7 +6,7 @@ use smallvec::SmallVec;
 use std::alloc::{AllocError, Global};
 use std::marker::Model;
 
-/// A text of up to this many bytes stands in the value itself and takes no memory.
+/// A text of up to this many bytes is in the value itself and takes no memory.
 pub const INLINE_BYTES: usize = 24;
 
 /// A text of any bytes. Contracts see it as the list of its bytes.

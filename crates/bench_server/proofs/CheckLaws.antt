@@ -47,7 +47,7 @@ written_shows files name s valid (Ok done) h w = record { database = valid.datab
 written_shows files name s valid (Err failed) h w = record {
   database = valid.database;
   is_there = h;
-  holds = record { sent = w.front.sent; rest = w.front.rest; parted = w.front.parted; written = w.front.written };
+  holds = record { sent = w.prefix.sent; rest = w.prefix.rest; parted = w.prefix.parted; written = w.prefix.written };
 }
 
 written_valid : (name : List ℕ) (s : Seen) (valid : Valid) (result : Result (Unit {0}) Failed) → ChecksFile s.library name (Ok valid) s.library_now

@@ -14,7 +14,7 @@ use Rattle.bench_text.specs.LogsRead.{HaveLeft, HasRead, IsReadToEnd}
 use Rattle.bench_server.proofs.OptionLaws.{no_value}
 use Rattle.bench_server.specs.Outcomes.{IsHeard, IsUnread, IsLogOf, IsLogNamed}
 
--- a log that was opened of told files has the named file's bytes left
+-- a log that was opened of known files has the named file's bytes left
 pub record OpenedOf (files : Files) (name bytes : List ℕ) (log : SourceState) : Type 0 where
   pub is_there : HasBytes files name bytes
   pub left : log.left ≡ Some bytes
@@ -55,7 +55,7 @@ read_of bytes log log_now l t r = read_with bytes log log_now r.0 log_now.left r
 pub unread_of : (bytes : List ℕ) (log : SourceState) → log.left ≡ Some bytes → log.taken ≡ Some [] → IsLogOf bytes log
 unread_of bytes log l t = record { took = []; rest = bytes; taken = t; left = l; joined = refl }
 
--- all logs of names, opened of told files and then read
+-- all logs of names, opened of known files and then read
 pub record ReadOf (files : Files) (names : List (List ℕ)) (logs logs_now : List SourceState) : Type 0 where
   pub bytes : List (List ℕ)
   pub are_there : AllZip (HasBytes files) names bytes
@@ -91,7 +91,7 @@ opened_named files (name ∷ names) (log ∷ logs) f =
     let one = opened_of files name log f.0 in
     ((one.0, one.1.is_there, unread_of one.0 log one.1.left one.1.taken), opened_named files names logs f.1)
 
--- logs that were opened stand as they were opened
+-- logs that were opened are as they were opened
 unread_each : (files : Option Files) (names : List (List ℕ)) (logs : List SourceState) → AllZip (IsFresh files) names logs → AllByRecursion IsUnread logs
 unread_each files [] [] f = tt
 unread_each files [] (log ∷ logs) f = absurd f
@@ -112,16 +112,16 @@ unread_from files names logs heard log behind f e =
     (each.0, All-from_recursion IsUnread behind each.1)
 
 -- no log that was opened has ended, by what each tells
-ended_each : {L : Type 0} (told : L → SourceState) (files : Option Files) (names : List (List ℕ)) (logs : List L) → AllZip (IsFresh files) names (map told logs)
-    → AllByRecursion (λ log. (told log).ended ≡ false) logs
-ended_each told files [] [] f = tt
-ended_each told files [] (log ∷ logs) f = absurd f
-ended_each told files (name ∷ names) [] f = absurd f
-ended_each told files (name ∷ names) (log ∷ logs) f = (f.0.not_ended, ended_each told files names logs f.1)
+ended_each : {L : Type 0} (source_state : L → SourceState) (files : Option Files) (names : List (List ℕ)) (logs : List L) → AllZip (IsFresh files) names (map source_state logs)
+    → AllByRecursion (λ log. (source_state log).ended ≡ false) logs
+ended_each source_state files [] [] f = tt
+ended_each source_state files [] (log ∷ logs) f = absurd f
+ended_each source_state files (name ∷ names) [] f = absurd f
+ended_each source_state files (name ∷ names) (log ∷ logs) f = (f.0.not_ended, ended_each source_state files names logs f.1)
 
-pub none_ended : {L : Type 0} (told : L → SourceState) (files : Option Files) (names : List (List ℕ)) (logs : List L) → AllZip (IsFresh files) names (map told logs)
-    → All (λ log. (told log).ended ≡ false) logs
-none_ended told files names logs f = All-from_recursion (λ log. (told log).ended ≡ false) logs (ended_each told files names logs f)
+pub none_ended : {L : Type 0} (source_state : L → SourceState) (files : Option Files) (names : List (List ℕ)) (logs : List L) → AllZip (IsFresh files) names (map source_state logs)
+    → All (λ log. (source_state log).ended ≡ false) logs
+none_ended source_state files names logs f = All-from_recursion (λ log. (source_state log).ended ≡ false) logs (ended_each source_state files names logs f)
 
 pub all_unread : (files : Option Files) (names : List (List ℕ)) (logs : List SourceState) → AllZip (IsFresh files) names logs → All IsUnread logs
 all_unread files names logs f = All-from_recursion IsUnread logs (unread_each files names logs f)

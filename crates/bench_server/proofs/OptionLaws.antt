@@ -1,4 +1,4 @@
--- What holds of a value where it is there, and of bytes that are told.
+-- What holds of a value where it is there, and of bytes that are known.
 use Rattle.std.proofs.Common.{◌≡◌, ℕ, List, [], ◌++◌, Option, Some, None, refl, ap, subst, append_assoc}
 use Rattle.std.proofs.lemmas.List.{append-nil}
 use Rattle.std.specs.Option.{IfSome, IsSome}

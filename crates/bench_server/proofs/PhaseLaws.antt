@@ -82,8 +82,8 @@ strays_since before mid name s files e first second =
 pub ends_since : (before mid : LibraryState) (name : List ℕ) (s : Seen) (end : Status) → s.library ≡ mid → WasAsked before mid name → EndsDecode name s end
     → EndsDecode name (record s { library = before }) end
 ends_since before mid name s end e w h =
-    let told : s.library.files ≡ before.files = ap (λ (m : LibraryState). m.files) e ∙ w.files in
-    let since = λ (files : Files) (t : before.files ≡ Some files). told ∙ t in
+    let kept : s.library.files ≡ before.files = ap (λ (m : LibraryState). m.files) e ∙ w.files in
+    let since = λ (files : Files) (t : before.files ≡ Some files). kept ∙ t in
     record {
       caused = caused_since before mid name s end e w h.caused;
       shows = if_some before.files (λ files. Shows files name (record s { library = before }) end) (λ files t.
@@ -168,7 +168,7 @@ plan_asked name before mid result r = record {
 -- the plan of a bench file that was read
 pub plan_read : (name : List ℕ) (before mid : LibraryState) (plan : Plan) → ReadsPlan before name (Ok plan) mid → IfSome mid.files (λ files. HasPlan files name plan)
 plan_read name before mid plan r = if_some mid.files (λ files. HasPlan files name plan) (λ files e.
-    record { bytes = r.answer.bytes; is_there = of_some before.files (λ files. HasBytes files name r.answer.bytes) files (sym r.asks.files ∙ e) r.answer.told; is_plan = r.answer.is_plan })
+    record { bytes = r.answer.bytes; is_there = of_some before.files (λ files. HasBytes files name r.answer.bytes) files (sym r.asks.files ∙ e) r.answer.known; is_plan = r.answer.is_plan })
 
 -- the image was not made
 image_caused : (s : Seen) (room : ℕ) (bench : Bench) (why : DecodeRefused) → AnswersImage room bench (Err why) → WroteNothing s → s.logs ≡ [] → Caused s (refused_status why)

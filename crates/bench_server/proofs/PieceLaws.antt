@@ -5,7 +5,7 @@ use Rattle.std.specs.Prelude.{Result, Ok, Err, IsErr}
 use Rattle.std.specs.Io.KnownBytes.{append_known}
 use Rattle.port_io.specs.Causes.{Rose}
 use Rattle.port_io.specs.OtherSide.{SinkState}
-use Rattle.bench_server.specs.Pieces.{WritesFront, WritesText, joined}
+use Rattle.bench_server.specs.Pieces.{WritesPrefix, WritesText, joined}
 use Rattle.bench_server.proofs.OptionLaws.{append_known-append}
 
 -- what was sent and the pieces that are left are all the pieces
@@ -34,7 +34,7 @@ module _ (before was now : SinkState) (pieces : List (Bor (List ℕ))) (i : ℕ)
 
   -- a prefix of a piece was sent, and the count rose
   pub sent_part : (n : ℕ) → now.written ≡ append_known was.written (take n (get_or pieces i d).now) → Rose was.write_faults now.write_faults → was.write_faults ≤ now.write_faults
-      → WritesFront before (joined pieces) now
+      → WritesPrefix before (joined pieces) now
   sent_part n w rose later =
       let piece : List ℕ = (get_or pieces i d).now in
       record {
@@ -49,7 +49,7 @@ module _ (before was now : SinkState) (pieces : List (Bor (List ℕ))) (i : ℕ)
       }
 
 -- a prefix was sent, and an error answered
-pub sent_cut : {E : Type 0} (before now : SinkState) (text : List ℕ) (result : Result (Unit {0}) E) → IsErr result → WritesFront before text now → Rose before.write_faults now.write_faults
+pub sent_cut : {E : Type 0} (before now : SinkState) (text : List ℕ) (result : Result (Unit {0}) E) → IsErr result → WritesPrefix before text now → Rose before.write_faults now.write_faults
     → WritesText before text result now
-sent_cut before now text (Ok done) h front rose = absurd (let e : false ≡ true = h in cc)
-sent_cut before now text (Err why) h front rose = record { front = front; all = tt; cause = rose }
+sent_cut before now text (Ok done) h prefix rose = absurd (let e : false ≡ true = h in cc)
+sent_cut before now text (Err why) h prefix rose = record { prefix = prefix; all = tt; cause = rose }

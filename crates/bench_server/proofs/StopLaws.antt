@@ -19,7 +19,7 @@ use Rattle.bench_server.specs.Outcomes.{IsUnread, HasFailed, IsTooLong, StopsAt,
 use Rattle.bench_server.proofs.OptionLaws.{of_some}
 use Rattle.bench_server.proofs.LogLaws.{unread_from, all_heard, zip_length, left_before}
 
--- where the reader stopped is where the log of this bus stands
+-- where the reader stopped is where the log of this bus is
 stop_at : (files : Option Files) (names : List (List ℕ)) (logs logs_now : List SourceState) (bus : ℕ) (st : read.StopsAt bus logs logs_now) → AllZip (IsFresh files) names logs
     → (Holds : SourceState → Type 0) → Holds st.log_now → StopsAt logs_now bus Holds
 stop_at files names logs logs_now bus st f Holds h = record {
@@ -34,13 +34,13 @@ stop_at files names logs logs_now bus st f Holds h = record {
 }
 
 -- what was taken of a log of which nothing was taken before
-taken_told : (o : Option (List ℕ)) (took : List ℕ) → IfSome (append_known (option_map (λ _. []) o) took) (λ taken. taken ≡ took)
-taken_told None took = tt
-taken_told (Some left) took = refl
+taken_known : (o : Option (List ℕ)) (took : List ℕ) → IfSome (append_known (option_map (λ _. []) o) took) (λ taken. taken ≡ took)
+taken_known None took = tt
+taken_known (Some left) took = refl
 
 taken_of : (log log_now : SourceState) (took : List ℕ) → IsUnread log → TakesBytes log log_now took → IfSome log_now.taken (λ taken. taken ≡ took)
 taken_of log log_now took u r =
-    subst (λ (o : Option (List ℕ)). IfSome o (λ taken. taken ≡ took)) (sym (r.taken ∙ ap (λ (o : Option (List ℕ)). append_known o took) u.none_taken)) (taken_told log.left took)
+    subst (λ (o : Option (List ℕ)). IfSome o (λ taken. taken ≡ took)) (sym (r.taken ∙ ap (λ (o : Option (List ℕ)). append_known o took) u.none_taken)) (taken_known log.left took)
 
 -- a count that rose from none
 risen : (before now : ℕ) → before ≡ 0 → Rose before now → 1 ≤ now
@@ -73,7 +73,7 @@ module _ (files : Option Files) (names : List (List ℕ)) (logs logs_now : List 
         | inr st ↦ inr (st.0, stop_at files names logs logs_now st.0 st.1 f (λ _. Unit {0}) tt)
       ]
 
-  -- where the logs are told, the text goes as far as this one was taken
+  -- where the logs are known, the text goes as far as this one was taken
   pub stops_text : (bench : Bench) (bus : ℕ) (out out_now : SinkState) (bytes : List (List ℕ)) → HaveLeft logs bytes → (p : PrintsTo (all_wanted bench) bench bus logs logs_now out out_now)
       → StopsAt logs_now bus (λ log. (took : List ℕ) × (log.taken ≡ Some took)
       × (out_now.written ≡ append_known out.written (text_of bench (take bus bytes) ++ text_up_to bench bus took)))

@@ -51,7 +51,7 @@ pub then_there : (files : Files) (names : List (List ℕ)) (last bytes : List �
 then_there files [] last bytes h e = one_more bytes e no_names
 then_there files (name ∷ names) last bytes (one_more b h more) e = one_more b h (then_there files names last bytes more e)
 
--- the first log that is not there stands behind those that are
+-- the first log that is not there is behind those that are
 pub first_missing : (files : Files) (opened : List (List ℕ)) (last : List ℕ) (behind : List (List ℕ)) → AreThere files opened → named files last ≡ None
     → FirstFails (HasBytes files) (IsMissing files) (opened ++ last ∷ behind) (length opened) tt
 first_missing files [] last behind h e = e

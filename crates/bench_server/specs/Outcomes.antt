@@ -1,4 +1,4 @@
--- How a run of `decode` ends. One table says what caused each status, whatever is told of the outside, and one what it
+-- How a run of `decode` ends. One table says what caused each status, whatever is known of the outside, and one what it
 -- shows where the library tells its files.
 use Rattle.std.specs.Prelude.{◌≡◌, ◌⊎◌, ℕ, ◌<◌, ◌≤◌, true, false, List, [], ◌∷◌, ◌++◌, length, take, zip, All, Some, None, IfSome}
 use Rattle.std.specs.List.{AllZip}
@@ -18,7 +18,7 @@ use Rattle.bench_server.specs.declared.status.Status.{Status}
 use Rattle.bench_server.specs.declared.status.Status.TheVariants as status
 use Rattle.bench_server.specs.ToolText.{text_of, text_up_to, tool_text}
 
--- what stands before and after: the library, the output, and the logs that were opened, as they are handed back
+-- what is before and after: the library, the output, and the logs that were opened, as they are handed back
 pub record Seen : Type 0 where
   pub library : LibraryState
   pub library_now : LibraryState
@@ -47,7 +47,7 @@ pub record IsHeard (log : SourceState) : Type 0 where
   pub ended : log.ended ≡ true
   pub none_left : IfSome log.left (λ left. left ≡ [])
 
--- a log stands as it was opened
+-- a log is as it was opened
 pub record IsUnread (log : SourceState) : Type 0 where
   pub none_taken : log.taken ≡ option_map (λ _. []) log.left
   pub no_faults : log.read_faults ≡ 0

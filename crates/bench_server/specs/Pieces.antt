@@ -6,7 +6,7 @@ use Rattle.port_io.specs.Causes.{Rose}
 use Rattle.port_io.specs.OtherSide.{SinkState}
 
 -- a prefix of a text was written: all of it, or the sink's count rose
-pub record WritesFront (before : SinkState) (text : List ℕ) (now : SinkState) : Type 0 where
+pub record WritesPrefix (before : SinkState) (text : List ℕ) (now : SinkState) : Type 0 where
   pub sent : List ℕ
   pub rest : List ℕ
   pub parted : sent ++ rest ≡ text
@@ -16,7 +16,7 @@ pub record WritesFront (before : SinkState) (text : List ℕ) (now : SinkState) 
 
 -- all of it on Ok, and a fault where the count rose
 pub record WritesText {E : Type 0} (before : SinkState) (text : List ℕ) (result : Result (Unit {0}) E) (now : SinkState) : Type 0 where
-  pub front : WritesFront before text now
+  pub prefix : WritesPrefix before text now
   pub all : OnOk result (now.written ≡ append_known before.written text)
   pub cause : OnErr result (Rose before.write_faults now.write_faults)
 

@@ -17,7 +17,7 @@ use Rattle.bench_server.specs.ToolText.{tool_text, check_text}
 use Rattle.bench_server.specs.Outcomes.{Seen, Wrote, WrotePrefix, DidNothing, StopsAt, WroteTo, EndsDecode}
 use Rattle.bench_server.specs.CheckOutcomes.{EndsCheck}
 use Rattle.bench_server.specs.MillOutcomes.{EndsMill}
-use Rattle.bench_server.specs.Pieces.{WritesFront}
+use Rattle.bench_server.specs.Pieces.{WritesPrefix}
 use Rattle.bench_server.specs.FaultLine.{fault_line}
 
 -- words of no command: nothing is asked for and nothing is written
@@ -123,7 +123,7 @@ NamesBuses files bench names status.Memory = Unit {0}
 pub record Reports (named : List (List ℕ) → Type 0) (err err_now : SinkState) (end : Status) : Type 0 where
   pub names : List (List ℕ)
   pub are_names : named names
-  pub line : WritesFront err (fault_line names end) err_now
+  pub line : WritesPrefix err (fault_line names end) err_now
 
 abbrev pub ReportsTool : Option Files → Option ToolCommand → SinkState → SinkState → Status → Type 0
 ReportsTool files (Some (Decodes bench)) err err_now end =

@@ -2,8 +2,8 @@
 
 ghost use Rattle.std.specs.Prelude.{◌≡◌, ◌≤◌, ◌*◌, [], length};
 ghost use Rattle.bench_model.specs.Check.{IsValid};
-ghost use Rattle.bench_inputs.specs.Asking.{library_told};
-ghost use Rattle.bus_text.specs.Fronts.{sink_told};
+ghost use Rattle.bench_inputs.specs.Asking.{library_state};
+ghost use Rattle.bus_text.specs.Prefixes.{sink_state};
 ghost use Rattle.bench_server.specs.ToolText.{signal_count, check_text};
 ghost use Rattle.bench_server.specs.Pieces.{WritesText};
 ghost use Rattle.bench_server.specs.CheckOutcomes.{EndsCheck};
@@ -34,8 +34,8 @@ fn signal_count(database: &Database) -> u64
 /// Appends the text of a valid database: how many messages and signals it has.
 fn write_counts<K: Sink>(out: &mut K, database: &Database) -> Result<(), Failed>
     requires { IsValid database.now }
-    ensures { WritesText (sink_told (K.written out.old) (K.write_faults out.old)) (check_text database.now) result
-        (sink_told (K.written out.new) (K.write_faults out.new)) }
+    ensures { WritesText (sink_state (K.written out.old) (K.write_faults out.old)) (check_text database.now) result
+        (sink_state (K.written out.new) (K.write_faults out.new)) }
 {
     let mut messages = Buffer::new();
     let mut signals = Buffer::new();
@@ -54,14 +54,14 @@ pub(crate) fn check<B: Library, K: Sink>(
     out: &mut K,
 ) -> Status
     ensures ends { EndsCheck name.now (seen
-        (library_told (B.files library.old) (B.open_faults library.old) (B.more_faults library.old) (B.strays library.old))
-        (library_told (B.files library.new) (B.open_faults library.new) (B.more_faults library.new) (B.strays library.new))
-        (sink_told (K.written out.old) (K.write_faults out.old)) (sink_told (K.written out.new) (K.write_faults out.new))
+        (library_state (B.files library.old) (B.open_faults library.old) (B.more_faults library.old) (B.strays library.old))
+        (library_state (B.files library.new) (B.open_faults library.new) (B.more_faults library.new) (B.strays library.new))
+        (sink_state (K.written out.old) (K.write_faults out.old)) (sink_state (K.written out.new) (K.write_faults out.new))
         []) result }
     ensures keeps { Keeps (seen
-        (library_told (B.files library.old) (B.open_faults library.old) (B.more_faults library.old) (B.strays library.old))
-        (library_told (B.files library.new) (B.open_faults library.new) (B.more_faults library.new) (B.strays library.new))
-        (sink_told (K.written out.old) (K.write_faults out.old)) (sink_told (K.written out.new) (K.write_faults out.new)) []) }
+        (library_state (B.files library.old) (B.open_faults library.old) (B.more_faults library.old) (B.strays library.old))
+        (library_state (B.files library.new) (B.open_faults library.new) (B.more_faults library.new) (B.strays library.new))
+        (sink_state (K.written out.old) (K.write_faults out.old)) (sink_state (K.written out.new) (K.write_faults out.new)) []) }
 {
     match check_file(alloc, library, name) {
         Ok(valid) => status_of(Ended::Write(write_counts(out, valid.database()))),

@@ -3,11 +3,11 @@
 ghost use Rattle.std.specs.Prelude.{◌≡◌, ℕ, List, [], map, vec_len, IfOk, IfSome};
 ghost use Rattle.bench_model.specs.ValidBench.{IsValidBench};
 ghost use Rattle.bench_file.specs.declared.plan.Plan.{Plan as AnyPlan};
-ghost use Rattle.bench_inputs.specs.Asking.{library_told};
+ghost use Rattle.bench_inputs.specs.Asking.{library_state};
 ghost use Rattle.bench_inputs.specs.BenchFiles.{HasPlan};
-ghost use Rattle.bench_inputs.specs.Reading.{log_told};
+ghost use Rattle.bench_inputs.specs.Reading.{log_state};
 ghost use Rattle.bench_loader.specs.Verdict.{FitsRegion};
-ghost use Rattle.bus_text.specs.Fronts.{sink_told};
+ghost use Rattle.bus_text.specs.Prefixes.{sink_state};
 ghost use Rattle.bench_server.specs.ToolText.{bus_names, all_wanted};
 ghost use Rattle.bench_server.specs.Outcomes.{EndsDecode};
 ghost use Rattle.bench_server.specs.EndView.{decode_status};
@@ -63,9 +63,9 @@ fn load_databases<B: Library>(
 ) -> Result<Bench, DecodeRefused>
     requires planned { ArePlannedBuses buses.now }
     ensures { LoadsDatabases
-        (library_told (B.files library.old) (B.open_faults library.old) (B.more_faults library.old) (B.strays library.old))
+        (library_state (B.files library.old) (B.open_faults library.old) (B.more_faults library.old) (B.strays library.old))
         buses.now result
-        (library_told (B.files library.new) (B.open_faults library.new) (B.more_faults library.new) (B.strays library.new)) }
+        (library_state (B.files library.new) (B.open_faults library.new) (B.more_faults library.new) (B.strays library.new)) }
 {
     one_reading_of_databases();
     let files = read_databases(alloc, library, buses)?;
@@ -99,20 +99,20 @@ fn decode_logs<B: Library, K: Sink>(
     requires none { logs.old.items ≡ [] }
     requires empty { vec_len logs.old ≡ 0 }
     requires bench { IsBenchOf
-        (library_told (B.files library.old) (B.open_faults library.old) (B.more_faults library.old) (B.strays library.old))
+        (library_state (B.files library.old) (B.open_faults library.old) (B.more_faults library.old) (B.strays library.old))
         buses.now image.old }
     ensures ends { (name : List ℕ) (plan : AnyPlan) → plan.buses ≡ buses.now → FitsRegion plan image.old
         → IfSome (B.files library.old) (λ files. HasPlan files name plan)
         → EndsDecode name (seen
-        (library_told (B.files library.old) (B.open_faults library.old) (B.more_faults library.old) (B.strays library.old))
-        (library_told (B.files library.new) (B.open_faults library.new) (B.more_faults library.new) (B.strays library.new))
-        (sink_told (K.written out.old) (K.write_faults out.old)) (sink_told (K.written out.new) (K.write_faults out.new))
-        (map (λ log. log_told (B.Log.left log) (B.Log.taken log) (B.Log.read_faults log) (B.Log.ended log)) logs.new.items))
+        (library_state (B.files library.old) (B.open_faults library.old) (B.more_faults library.old) (B.strays library.old))
+        (library_state (B.files library.new) (B.open_faults library.new) (B.more_faults library.new) (B.strays library.new))
+        (sink_state (K.written out.old) (K.write_faults out.old)) (sink_state (K.written out.new) (K.write_faults out.new))
+        (map (λ log. log_state (B.Log.left log) (B.Log.taken log) (B.Log.read_faults log) (B.Log.ended log)) logs.new.items))
         (decode_status result) }
     ensures keeps { Keeps (seen
-        (library_told (B.files library.old) (B.open_faults library.old) (B.more_faults library.old) (B.strays library.old))
-        (library_told (B.files library.new) (B.open_faults library.new) (B.more_faults library.new) (B.strays library.new))
-        (sink_told (K.written out.old) (K.write_faults out.old)) (sink_told (K.written out.new) (K.write_faults out.new)) []) }
+        (library_state (B.files library.old) (B.open_faults library.old) (B.more_faults library.old) (B.strays library.old))
+        (library_state (B.files library.new) (B.open_faults library.new) (B.more_faults library.new) (B.strays library.new))
+        (sink_state (K.written out.old) (K.write_faults out.old)) (sink_state (K.written out.new) (K.write_faults out.new)) []) }
 {
     let Printing { wants, mut buffer } = printing_of(alloc, image.bench())?;
     logs.reserve(buses.len())?;
@@ -134,15 +134,15 @@ pub(crate) fn decode<B: Library, K: Sink>(
     requires empty { vec_len logs.old ≡ 0 }
     ensures ends { (name : List ℕ) → IfSome (B.files library.old) (λ files. HasPlan files name plan.now)
         → EndsDecode name (seen
-        (library_told (B.files library.old) (B.open_faults library.old) (B.more_faults library.old) (B.strays library.old))
-        (library_told (B.files library.new) (B.open_faults library.new) (B.more_faults library.new) (B.strays library.new))
-        (sink_told (K.written out.old) (K.write_faults out.old)) (sink_told (K.written out.new) (K.write_faults out.new))
-        (map (λ log. log_told (B.Log.left log) (B.Log.taken log) (B.Log.read_faults log) (B.Log.ended log)) logs.new.items))
+        (library_state (B.files library.old) (B.open_faults library.old) (B.more_faults library.old) (B.strays library.old))
+        (library_state (B.files library.new) (B.open_faults library.new) (B.more_faults library.new) (B.strays library.new))
+        (sink_state (K.written out.old) (K.write_faults out.old)) (sink_state (K.written out.new) (K.write_faults out.new))
+        (map (λ log. log_state (B.Log.left log) (B.Log.taken log) (B.Log.read_faults log) (B.Log.ended log)) logs.new.items))
         (decode_status result) }
     ensures keeps { Keeps (seen
-        (library_told (B.files library.old) (B.open_faults library.old) (B.more_faults library.old) (B.strays library.old))
-        (library_told (B.files library.new) (B.open_faults library.new) (B.more_faults library.new) (B.strays library.new))
-        (sink_told (K.written out.old) (K.write_faults out.old)) (sink_told (K.written out.new) (K.write_faults out.new)) []) }
+        (library_state (B.files library.old) (B.open_faults library.old) (B.more_faults library.old) (B.strays library.old))
+        (library_state (B.files library.new) (B.open_faults library.new) (B.more_faults library.new) (B.strays library.new))
+        (sink_state (K.written out.old) (K.write_faults out.old)) (sink_state (K.written out.new) (K.write_faults out.new)) []) }
 {
     let buses = plan.buses.items();
     let bench = load_databases(alloc, library, buses)?;

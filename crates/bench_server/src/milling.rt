@@ -3,7 +3,7 @@
 ghost use Rattle.std.specs.Prelude.{◌≡◌, ◌≤◌, [], IfOk};
 ghost use Rattle.bench_mill.specs.Totals.{mill_text};
 ghost use Rattle.bench_inputs.specs.Asking.{LibraryState};
-ghost use Rattle.bus_text.specs.Fronts.{sink_told};
+ghost use Rattle.bus_text.specs.Prefixes.{sink_state};
 ghost use Rattle.bench_server.specs.Loading.{seen};
 ghost use Rattle.bench_server.specs.MillOutcomes.{EndsMill};
 
@@ -27,7 +27,7 @@ fn mill_text(alloc: Global, frames: u32) -> Result<Vec<u8>, AllocError>
 /// Decodes so many generated frames, and appends their three numbers.
 pub(crate) fn mill<K: Sink>(alloc: Global, frames: u32, out: &mut K) -> Status
     ensures ends { (library : LibraryState) → EndsMill frames (seen library library
-        (sink_told (K.written out.old) (K.write_faults out.old)) (sink_told (K.written out.new) (K.write_faults out.new))
+        (sink_state (K.written out.old) (K.write_faults out.old)) (sink_state (K.written out.new) (K.write_faults out.new))
         []) result }
     ensures later { K.write_faults out.old ≤ K.write_faults out.new }
 {

@@ -2,8 +2,8 @@
 
 ghost use Rattle.std.specs.Prelude.{◌≡◌, ◌++◌, [], flat_map, slice_index_or, IfOk, OnOk};
 ghost use Rattle.text_words.specs.SpacedWords.{behind_blank};
-ghost use Rattle.bus_text.specs.Fronts.{sink_told};
-ghost use Rattle.bench_server.specs.Pieces.{WritesFront, joined};
+ghost use Rattle.bus_text.specs.Prefixes.{sink_state};
+ghost use Rattle.bench_server.specs.Pieces.{WritesPrefix, joined};
 ghost use Rattle.bench_server.specs.FaultLine.{bus_words, fault_line, HasPlainLine};
 ghost use Rattle.bench_server.specs.Reporting.{Stays};
 ghost use Rattle.bench_server.specs.Tool.{plan_names};
@@ -62,8 +62,8 @@ fn refused_line(
 
 /// Appends pieces, as far as the sink takes them.
 fn append_pieces<E: Sink>(err: &mut E, pieces: &[&[u8]])
-    ensures { WritesFront (sink_told (E.written err.old) (E.write_faults err.old)) (joined pieces.now)
-        (sink_told (E.written err.new) (E.write_faults err.new)) }
+    ensures { WritesPrefix (sink_state (E.written err.old) (E.write_faults err.old)) (joined pieces.now)
+        (sink_state (E.written err.new) (E.write_faults err.new)) }
 {
     match write_pieces(err, pieces) {
         Ok(()) | Err(_) => {}
@@ -72,8 +72,8 @@ fn append_pieces<E: Sink>(err: &mut E, pieces: &[&[u8]])
 
 /// Appends the line of a bench that is too large.
 fn append_large<E: Sink>(err: &mut E, need: u64, room: u64)
-    ensures { WritesFront (sink_told (E.written err.old) (E.write_faults err.old))
-        (fault_line [] (Status.TooLarge need room)) (sink_told (E.written err.new) (E.write_faults err.new)) }
+    ensures { WritesPrefix (sink_state (E.written err.old) (E.write_faults err.old))
+        (fault_line [] (Status.TooLarge need room)) (sink_state (E.written err.new) (E.write_faults err.new)) }
 {
     let mut needed = Buffer::new();
     let mut there = Buffer::new();
@@ -85,8 +85,8 @@ fn append_large<E: Sink>(err: &mut E, need: u64, room: u64)
 /// Appends a line that takes no memory: that of any status but a refused database.
 fn append_line<E: Sink>(err: &mut E, buses: &[PlannedBus], status: &Status)
     requires plain { HasPlainLine status.now }
-    ensures { WritesFront (sink_told (E.written err.old) (E.write_faults err.old))
-        (fault_line (plan_names buses.now) status.now) (sink_told (E.written err.new) (E.write_faults err.new)) }
+    ensures { WritesPrefix (sink_state (E.written err.old) (E.write_faults err.old))
+        (fault_line (plan_names buses.now) status.now) (sink_state (E.written err.new) (E.write_faults err.new)) }
 {
     match status {
         Status::Ok | Status::Refused { .. } => append_pieces(err, &[]),
@@ -116,8 +116,8 @@ pub(crate) fn report<E: Sink>(
     status: Status,
 ) -> Status
     ensures status { Stays status result }
-    ensures line { WritesFront (sink_told (E.written err.old) (E.write_faults err.old))
-        (fault_line (plan_names buses.now) result) (sink_told (E.written err.new) (E.write_faults err.new)) }
+    ensures line { WritesPrefix (sink_state (E.written err.old) (E.write_faults err.old))
+        (fault_line (plan_names buses.now) result) (sink_state (E.written err.new) (E.write_faults err.new)) }
 {
     let Status::Refused { bus, fault } = &status else {
         append_line(err, buses, &status);

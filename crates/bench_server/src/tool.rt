@@ -3,9 +3,9 @@
 ghost use Rattle.std.specs.Prelude.{◌≡◌, [], map, vec_len};
 ghost use Rattle.tool_words.specs.Commands.{command_of};
 ghost use Rattle.tool_words.specs.WordView.{words_of};
-ghost use Rattle.bench_inputs.specs.Asking.{library_told};
-ghost use Rattle.bench_inputs.specs.Reading.{log_told};
-ghost use Rattle.bus_text.specs.Fronts.{sink_told};
+ghost use Rattle.bench_inputs.specs.Asking.{library_state};
+ghost use Rattle.bench_inputs.specs.Reading.{log_state};
+ghost use Rattle.bus_text.specs.Prefixes.{sink_state};
 ghost use Rattle.tool_words.specs.Commands.{Decodes, Checks};
 ghost use Rattle.bench_server.specs.Outcomes.{EndsDecode};
 ghost use Rattle.bench_server.specs.Loading.{seen, Keeps};
@@ -26,7 +26,7 @@ use port_io::{Library, Sink};
 use std::alloc::Global;
 use tool_words::{Command, command_of};
 
-/// What a run of the tool left: its status, and the logs that were opened, in order of buses, as they stand.
+/// What a run of the tool left: its status, and the logs that were opened, in order of buses, as they are.
 #[derive(Drop)]
 pub struct Ran<S> {
     pub status: Status,
@@ -45,17 +45,17 @@ fn decode_bench<B: Library, K: Sink, E: Sink>(
     requires none { logs.old.items ≡ [] }
     requires empty { vec_len logs.old ≡ 0 }
     ensures ends { EndsDecode bench.now (seen
-        (library_told (B.files library.old) (B.open_faults library.old) (B.more_faults library.old) (B.strays library.old))
-        (library_told (B.files library.new) (B.open_faults library.new) (B.more_faults library.new) (B.strays library.new))
-        (sink_told (K.written out.old) (K.write_faults out.old)) (sink_told (K.written out.new) (K.write_faults out.new))
-        (map (λ log. log_told (B.Log.left log) (B.Log.taken log) (B.Log.read_faults log) (B.Log.ended log)) logs.new.items))
+        (library_state (B.files library.old) (B.open_faults library.old) (B.more_faults library.old) (B.strays library.old))
+        (library_state (B.files library.new) (B.open_faults library.new) (B.more_faults library.new) (B.strays library.new))
+        (sink_state (K.written out.old) (K.write_faults out.old)) (sink_state (K.written out.new) (K.write_faults out.new))
+        (map (λ log. log_state (B.Log.left log) (B.Log.taken log) (B.Log.read_faults log) (B.Log.ended log)) logs.new.items))
         result }
     ensures keeps { Keeps (seen
-        (library_told (B.files library.old) (B.open_faults library.old) (B.more_faults library.old) (B.strays library.old))
-        (library_told (B.files library.new) (B.open_faults library.new) (B.more_faults library.new) (B.strays library.new))
-        (sink_told (K.written out.old) (K.write_faults out.old)) (sink_told (K.written out.new) (K.write_faults out.new)) []) }
+        (library_state (B.files library.old) (B.open_faults library.old) (B.more_faults library.old) (B.strays library.old))
+        (library_state (B.files library.new) (B.open_faults library.new) (B.more_faults library.new) (B.strays library.new))
+        (sink_state (K.written out.old) (K.write_faults out.old)) (sink_state (K.written out.new) (K.write_faults out.new)) []) }
     ensures line { ReportsTool (B.files library.old) (Some (Decodes bench.now))
-        (sink_told (E.written err.old) (E.write_faults err.old)) (sink_told (E.written err.new) (E.write_faults err.new)) result }
+        (sink_state (E.written err.old) (E.write_faults err.old)) (sink_state (E.written err.new) (E.write_faults err.new)) result }
 {
     limits_of_a_plan();
     let plan = match read_bench(alloc, library, bench) {
@@ -79,17 +79,17 @@ fn run<B: Library, K: Sink, E: Sink>(
     requires none { logs.old.items ≡ [] }
     requires empty { vec_len logs.old ≡ 0 }
     ensures ends { EndsTool (command_of (words_of words.now)) (seen
-        (library_told (B.files library.old) (B.open_faults library.old) (B.more_faults library.old) (B.strays library.old))
-        (library_told (B.files library.new) (B.open_faults library.new) (B.more_faults library.new) (B.strays library.new))
-        (sink_told (K.written out.old) (K.write_faults out.old)) (sink_told (K.written out.new) (K.write_faults out.new))
-        (map (λ log. log_told (B.Log.left log) (B.Log.taken log) (B.Log.read_faults log) (B.Log.ended log)) logs.new.items))
+        (library_state (B.files library.old) (B.open_faults library.old) (B.more_faults library.old) (B.strays library.old))
+        (library_state (B.files library.new) (B.open_faults library.new) (B.more_faults library.new) (B.strays library.new))
+        (sink_state (K.written out.old) (K.write_faults out.old)) (sink_state (K.written out.new) (K.write_faults out.new))
+        (map (λ log. log_state (B.Log.left log) (B.Log.taken log) (B.Log.read_faults log) (B.Log.ended log)) logs.new.items))
         result }
     ensures keeps { Keeps (seen
-        (library_told (B.files library.old) (B.open_faults library.old) (B.more_faults library.old) (B.strays library.old))
-        (library_told (B.files library.new) (B.open_faults library.new) (B.more_faults library.new) (B.strays library.new))
-        (sink_told (K.written out.old) (K.write_faults out.old)) (sink_told (K.written out.new) (K.write_faults out.new)) []) }
+        (library_state (B.files library.old) (B.open_faults library.old) (B.more_faults library.old) (B.strays library.old))
+        (library_state (B.files library.new) (B.open_faults library.new) (B.more_faults library.new) (B.strays library.new))
+        (sink_state (K.written out.old) (K.write_faults out.old)) (sink_state (K.written out.new) (K.write_faults out.new)) []) }
     ensures line { ReportsTool (B.files library.old) (command_of (words_of words.now))
-        (sink_told (E.written err.old) (E.write_faults err.old)) (sink_told (E.written err.new) (E.write_faults err.new)) result }
+        (sink_state (E.written err.old) (E.write_faults err.old)) (sink_state (E.written err.new) (E.write_faults err.new)) result }
 {
     match command_of(words) {
         Some(Command::Decode { bench }) => decode_bench(alloc, bench, library, out, err, logs),
@@ -117,27 +117,27 @@ pub fn run_tool<B: Library, K: Sink, E: Sink>(
 ) -> Ran<B::Log>
     // What each status was caused by, what it shows of the files, what was written, and which logs are handed back.
     ensures ends { EndsTool (command_of (words_of words.now)) (seen
-        (library_told (B.files library.old) (B.open_faults library.old) (B.more_faults library.old) (B.strays library.old))
-        (library_told (B.files library.new) (B.open_faults library.new) (B.more_faults library.new) (B.strays library.new))
-        (sink_told (K.written out.old) (K.write_faults out.old)) (sink_told (K.written out.new) (K.write_faults out.new))
-        (map (λ log. log_told (B.Log.left log) (B.Log.taken log) (B.Log.read_faults log) (B.Log.ended log)) result.logs))
+        (library_state (B.files library.old) (B.open_faults library.old) (B.more_faults library.old) (B.strays library.old))
+        (library_state (B.files library.new) (B.open_faults library.new) (B.more_faults library.new) (B.strays library.new))
+        (sink_state (K.written out.old) (K.write_faults out.old)) (sink_state (K.written out.new) (K.write_faults out.new))
+        (map (λ log. log_state (B.Log.left log) (B.Log.taken log) (B.Log.read_faults log) (B.Log.ended log)) result.logs))
         result.status }
     // The files decide: what they are refused for is named, and what they make is the text.
     ensures exact { AgreesWithFiles (command_of (words_of words.now)) (seen
-        (library_told (B.files library.old) (B.open_faults library.old) (B.more_faults library.old) (B.strays library.old))
-        (library_told (B.files library.new) (B.open_faults library.new) (B.more_faults library.new) (B.strays library.new))
-        (sink_told (K.written out.old) (K.write_faults out.old)) (sink_told (K.written out.new) (K.write_faults out.new))
-        (map (λ log. log_told (B.Log.left log) (B.Log.taken log) (B.Log.read_faults log) (B.Log.ended log)) result.logs))
+        (library_state (B.files library.old) (B.open_faults library.old) (B.more_faults library.old) (B.strays library.old))
+        (library_state (B.files library.new) (B.open_faults library.new) (B.more_faults library.new) (B.strays library.new))
+        (sink_state (K.written out.old) (K.write_faults out.old)) (sink_state (K.written out.new) (K.write_faults out.new))
+        (map (λ log. log_state (B.Log.left log) (B.Log.taken log) (B.Log.read_faults log) (B.Log.ended log)) result.logs))
         result.status }
     // The status's line was appended to `err`, or a prefix of it where that sink's count of faults rose.
     ensures line { ReportsTool (B.files library.old) (command_of (words_of words.now))
-        (sink_told (E.written err.old) (E.write_faults err.old)) (sink_told (E.written err.new) (E.write_faults err.new))
+        (sink_state (E.written err.old) (E.write_faults err.old)) (sink_state (E.written err.new) (E.write_faults err.new))
         result.status }
     // No file changes, and no count falls.
     ensures keeps { Keeps (seen
-        (library_told (B.files library.old) (B.open_faults library.old) (B.more_faults library.old) (B.strays library.old))
-        (library_told (B.files library.new) (B.open_faults library.new) (B.more_faults library.new) (B.strays library.new))
-        (sink_told (K.written out.old) (K.write_faults out.old)) (sink_told (K.written out.new) (K.write_faults out.new)) []) }
+        (library_state (B.files library.old) (B.open_faults library.old) (B.more_faults library.old) (B.strays library.old))
+        (library_state (B.files library.new) (B.open_faults library.new) (B.more_faults library.new) (B.strays library.new))
+        (sink_state (K.written out.old) (K.write_faults out.old)) (sink_state (K.written out.new) (K.write_faults out.new)) []) }
 {
     one_verdict();
     one_check();

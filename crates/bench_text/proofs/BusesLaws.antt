@@ -16,7 +16,7 @@ use Rattle.bus_text.specs.declared.refused.BusRefused.{BusRefused}
 use Rattle.bus_text.specs.declared.refused.BusRefused.TheVariants as bus
 use Rattle.bus_text.specs.BusText.{bus_at, bus_text, text_so_far}
 use Rattle.bus_text.specs.Buffering.{Output, Buffers}
-use Rattle.bus_text.specs.Fronts.{sink_told}
+use Rattle.bus_text.specs.Prefixes.{sink_state}
 use Rattle.bus_text.specs.Printing.{PrintsLines, IsWritten as IsBusWritten}
 use Rattle.bench_text.specs.declared.refused.BusesRefused.TheVariants as buses
 use Rattle.bench_text.specs.BenchText.{whole_text, part_text, texts_from, bench_text}
@@ -24,7 +24,7 @@ use Rattle.bench_text.specs.LogsRead.{HaveLeft, IsReadToEnd, StopsAt}
 use Rattle.bench_text.specs.Printing.{PrintsTo, PrintsPrefix, PrintsBuses}
 use Rattle.bench_text.specs.BusAt.{HasLog, PrintsAt, refused_at}
 use Rattle.bench_text.proofs.TextLaws.{texts_none, texts_parted, texts_end}
-use Rattle.bench_text.proofs.ListLaws.{zip_more, zip_length, zip_parted, same_front, same_rest}
+use Rattle.bench_text.proofs.ListLaws.{zip_more, zip_length, zip_parted, same_prefix, same_rest}
 use Rattle.bench_text.proofs.ReadLaws.{all_read, stops_read}
 
 abbrev NotEnded : SourceState → Type 0
@@ -34,7 +34,7 @@ abbrev HasLeft : SourceState → List ℕ → Type 0
 HasLeft log left = log.left ≡ Some left
 
 abbrev pub sink_of : Output → SinkState
-sink_of s = sink_told s.written s.write_faults
+sink_of s = sink_state s.written s.write_faults
 
 -- the buses before this place were printed from their logs, and just their texts were given
 pub record GoesOn (w : WantList) (bench : Bench) (place : ℕ) (logs logs_now : List SourceState) (before now : Output) : Type 0 where
@@ -89,12 +89,12 @@ goes_on_from unused w bench logs s fresh = record {
   buffers = unused s;
 }
 
-log_here : (n : ℕ) (front rest : List SourceState) → length front ≡ n → n < length (front ++ rest)
-    → All (λ (log : SourceState). log.ended ≡ false) rest → HasLog n (front ++ rest)
-log_here n front [] e h fresh = absurd (omega (arith, e, h, length-append front []))
-log_here n front (log ∷ rest) e h fresh =
-    let P : ℕ → Type 0 = λ k. slice_get (front ++ log ∷ rest) k ≡ Some log in
-    (log, subst P e (get_at front log rest), All-head NotEnded log rest fresh)
+log_here : (n : ℕ) (prefix rest : List SourceState) → length prefix ≡ n → n < length (prefix ++ rest)
+    → All (λ (log : SourceState). log.ended ≡ false) rest → HasLog n (prefix ++ rest)
+log_here n prefix [] e h fresh = absurd (omega (arith, e, h, length-append prefix []))
+log_here n prefix (log ∷ rest) e h fresh =
+    let P : ℕ → Type 0 = λ k. slice_get (prefix ++ log ∷ rest) k ≡ Some log in
+    (log, subst P e (get_at prefix log rest), All-head NotEnded log rest fresh)
   where
     get_at : (xs : List SourceState) (x : SourceState) (ys : List SourceState) → slice_get (xs ++ x ∷ ys) (length xs) ≡ Some x
     get_at [] x ys = refl
@@ -113,14 +113,14 @@ next_log {place = place} g h =
 
 module _ {w : WantList} {bench : Bench} {place : ℕ} {logs mid_logs logs_now : List SourceState} {before mid now : Output} {r : Result (Unit {0}) BusRefused}
     (g : GoesOn w bench place logs mid_logs before mid) (p : PrintsAt w bench place mid_logs logs_now mid now r) where
-  fronts : length p.first ≡ length g.heard_now
-  fronts = p.count ∙ sym g.count ∙ zip_length IsReadToEnd g.heard g.heard_now g.to_end
+  prefixes : length p.first ≡ length g.heard_now
+  prefixes = p.count ∙ sym g.count ∙ zip_length IsReadToEnd g.heard g.heard_now g.to_end
 
-  front : p.first ≡ g.heard_now
-  front = same_front p.first (p.log ∷ p.behind) g.heard_now g.rest (sym p.parted ∙ g.parted_now) fronts
+  prefix : p.first ≡ g.heard_now
+  prefix = same_prefix p.first (p.log ∷ p.behind) g.heard_now g.rest (sym p.parted ∙ g.parted_now) prefixes
 
   behind : p.log ∷ p.behind ≡ g.rest
-  behind = same_rest p.first (p.log ∷ p.behind) g.heard_now g.rest (sym p.parted ∙ g.parted_now) fronts
+  behind = same_rest p.first (p.log ∷ p.behind) g.heard_now g.rest (sym p.parted ∙ g.parted_now) prefixes
 
   pub stops_at : StopsAt place logs logs_now
   stops_at = record {
@@ -130,7 +130,7 @@ module _ {w : WantList} {bench : Bench} {place : ℕ} {logs mid_logs logs_now : 
     log_now = p.log_now;
     behind = p.behind;
     parted = g.parted ∙ ap (λ (l : List SourceState). g.heard ++ l) (sym behind);
-    parted_now = p.parted_now ∙ ap (λ (l : List SourceState). l ++ p.log_now ∷ p.behind) front;
+    parted_now = p.parted_now ∙ ap (λ (l : List SourceState). l ++ p.log_now ∷ p.behind) prefix;
     count = g.count;
     to_end = g.to_end;
     took = p.prints.prints.took;
@@ -142,14 +142,14 @@ module _ {w : WantList} {bench : Bench} {place : ℕ} {logs mid_logs logs_now : 
       let P : List SourceState → Type 0 = λ l. All NotEnded l in
       All-tail NotEnded p.log p.behind (subst P (sym behind) g.fresh)
 
-lines_told : (left : Option (List ℕ)) (lines : List (List ℕ)) (bytes : List ℕ) → left ≡ Some bytes
+lines_known : (left : Option (List ℕ)) (lines : List (List ℕ)) (bytes : List ℕ) → left ≡ Some bytes
     → IfSome left (λ b. lines ≡ all_lines b) → lines ≡ all_lines bytes
-lines_told left lines bytes e h = let P : Option (List ℕ) → Type 0 = λ o. IfSome o (λ b. lines ≡ all_lines b) in subst P e h
+lines_known left lines bytes e h = let P : Option (List ℕ) → Type 0 = λ o. IfSome o (λ b. lines ≡ all_lines b) in subst P e h
 
 -- what was given of a bus whose log tells its bytes begins its whole text
 whole_given : (place : ℕ) (bytes : List ℕ) {w : WantList} {bench : Bench} {log log_now : SourceState} {before now : Output} (q : PrintsLines w bench (bus_at bench place) log log_now before now)
     → log.left ≡ Some bytes → q.given ++ q.ahead ≡ whole_text w bench place bytes
-whole_given place bytes {w} {bench} {log} q e = q.prefix ∙ ap (λ lines. bus_text w bench (bus_at bench place) (map line_of lines)) (lines_told log.left q.lines bytes e q.told)
+whole_given place bytes {w} {bench} {log} q e = q.prefix ∙ ap (λ lines. bus_text w bench (bus_at bench place) (map line_of lines)) (lines_known log.left q.lines bytes e q.known)
 
 bench_parted : (w : WantList) (bench : Bench) (place : ℕ) (first rest : List (List ℕ)) (one : List ℕ) (bytes : List (List ℕ)) (given part : List ℕ) → bytes ≡ first ++ one ∷ rest → length first ≡ place
     → given ≡ bench_text w bench first → part ≡ whole_text w bench place one
@@ -192,9 +192,9 @@ goes_on joined {w} {bench} {place} {logs} {mid_logs} {logs_now} {before} {mid} {
 
 -- ---- the bus at which it stopped
 
-if_told : (o : Option (List ℕ)) (P Q : Type 0) → (P → Q) → IfSome o (λ _. P) → IfSome o (λ _. Q)
-if_told None P Q f h = tt
-if_told (Some x) P Q f h = f h
+if_known : (o : Option (List ℕ)) (P Q : Type 0) → (P → Q) → IfSome o (λ _. P) → IfSome o (λ _. Q)
+if_known None P Q f h = tt
+if_known (Some x) P Q f h = f h
 
 -- what was sent and what lies ahead of it are the whole text
 sent_ahead : (sent pending given part ahead behind whole : List ℕ) → sent ++ pending ≡ given ++ part
@@ -249,7 +249,7 @@ to_there joined written {w} {bench} {place} {logs} {mid_logs} {logs_now} {before
       goes_on = goes_on;
       text = λ bytes h.
           let all = bench_text w bench bytes in
-          if_told p.log.left (q.read ≡ whole_lines q.took) (now.written ≡ append_known before.written (all ++ part_text w bench place q.took))
+          if_known p.log.left (q.read ≡ whole_lines q.took) (now.written ≡ append_known before.written (all ++ part_text w bench place q.took))
           (λ e. wrote ∙ ap (append_known before.written) (ap (λ (t : List ℕ). t ++ q.given) (g.text bytes h)
           ∙ ap (λ (t : List ℕ). all ++ t) (text ∙ ap (λ lines. text_so_far w bench (bus_at bench place) (map line_of lines)) e))) whole;
     }
@@ -286,9 +286,9 @@ stopped joined written bus.Memory g p empty flushed = record {
 
 -- ---- behind the last bus
 
-nothing_behind : (n : ℕ) (front rest : List SourceState) → length front ≡ n → length (front ++ rest) ≤ n → rest ≡ []
-nothing_behind n front [] e h = refl
-nothing_behind n front (log ∷ rest) e h = absurd (omega (arith, e, h, length-append front (log ∷ rest)))
+nothing_behind : (n : ℕ) (prefix rest : List SourceState) → length prefix ≡ n → length (prefix ++ rest) ≤ n → rest ≡ []
+nothing_behind n prefix [] e h = refl
+nothing_behind n prefix (log ∷ rest) e h = absurd (omega (arith, e, h, length-append prefix (log ∷ rest)))
 
 module _ {w : WantList} {bench : Bench} {place : ℕ} {logs logs_now : List SourceState} {before now : Output} (g : GoesOn w bench place logs logs_now before now) (all : length logs ≤ place) where
   no_rest : g.rest ≡ []

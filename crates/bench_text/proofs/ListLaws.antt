@@ -54,8 +54,8 @@ zip_parted {B = B} R (z ∷ xs) x more (y ∷ all) h =
     record { first = y ∷ p.first; one = p.one; rest = p.rest; parted = ap (λ (l : List B). y ∷ l) p.parted; first_zip = (h.0, p.first_zip); one_zip = p.one_zip; rest_zip = p.rest_zip }
 
 -- two partings of a list whose first parts are as long are one
-pub same_front : {A : Type 0} (xs ys vs ws : List A) → xs ++ ys ≡ vs ++ ws → length xs ≡ length vs → xs ≡ vs
-same_front {A} xs ys vs ws e n =
+pub same_prefix : {A : Type 0} (xs ys vs ws : List A) → xs ++ ys ≡ vs ++ ws → length xs ≡ length vs → xs ≡ vs
+same_prefix {A} xs ys vs ws e n =
     sym (take-append_seam xs ys) ∙ ap (λ (l : List A). take (length xs) l) e ∙ ap (λ k. take k (vs ++ ws)) n ∙ take-append_seam vs ws
 
 pub same_rest : {A : Type 0} (xs ys vs ws : List A) → xs ++ ys ≡ vs ++ ws → length xs ≡ length vs → ys ≡ ws

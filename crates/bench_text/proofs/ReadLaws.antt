@@ -15,7 +15,7 @@ nothing_more : (o : Option (List ℕ)) → o ≡ append_known o []
 nothing_more None = refl
 nothing_more (Some bytes) = ap (λ (l : List ℕ). Some l) (sym (append-nil bytes))
 
--- nothing was taken of a log that stands as it stood
+-- nothing was taken of a log that is as it was
 pub nothing_taken : (log : SourceState) → HasRead log log
 nothing_taken log = ([], record { left = nothing_left log.left; taken = nothing_more log.taken; limit = lit≤ tt; later = omega arith })
 

@@ -1,4 +1,4 @@
--- One bus printed from its log, which stands among those of the other buses; and its refusal with its place.
+-- One bus printed from its log, which is among those of the other buses; and its refusal with its place.
 use Rattle.std.specs.Prelude.{◌≡◌, ℕ, false, List, ◌∷◌, ◌++◌, length, Some, Result, slice_get}
 use Rattle.port_io.specs.OtherSide.{SourceState}
 use Rattle.bench_model.specs.declared.database.Bench.{Bench}
@@ -15,7 +15,7 @@ use Rattle.bench_text.specs.declared.refused.BusesRefused.TheVariants as buses
 abbrev pub HasLog : ℕ → List SourceState → Type 0
 HasLog place logs = (log : SourceState) × (slice_get logs place ≡ Some log) × (log.ended ≡ false)
 
--- the log at this place was printed, and the others stand as they stood
+-- the log at this place was printed, and the others are as they were
 pub record PrintsAt (w : WantList) (bench : Bench) (place : ℕ) (logs logs_now : List SourceState) (before now : Output)
     (result : Result (Unit {0}) BusRefused) : Type 0 where
   pub first : List SourceState

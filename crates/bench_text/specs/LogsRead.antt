@@ -8,7 +8,7 @@ use Rattle.candump_log.specs.Reads.{TakesBytes}
 abbrev pub HaveLeft : List SourceState → List (List ℕ) → Type 0
 HaveLeft logs bytes = AllZip (λ (log : SourceState) (left : List ℕ). log.left ≡ Some left) logs bytes
 
--- some bytes were taken of a log: the first of those left, which now stand behind those taken before
+-- some bytes were taken of a log: the first of those left, which now are behind those taken before
 abbrev pub HasRead : SourceState → SourceState → Type 0
 HasRead log log_now = (took : List ℕ) × TakesBytes log log_now took
 
@@ -19,8 +19,8 @@ pub record IsReadToEnd (log log_now : SourceState) : Type 0 where
   pub ended : log_now.ended ≡ true
   pub none_left : IfSome log_now.left (λ left. left ≡ [])
 
--- The logs before this place were read to their ends, some bytes were taken of the log there, and those behind it stand
--- as they stood.
+-- The logs before this place were read to their ends, some bytes were taken of the log there, and those behind it are
+-- as they were.
 pub record StopsAt (place : ℕ) (logs logs_now : List SourceState) : Type 0 where
   pub heard : List SourceState
   pub heard_now : List SourceState

@@ -1,9 +1,9 @@
 //! The buses of a bench, printed one after another.
 ghost use Rattle.std.specs.Prelude.{◌≡◌, ◌<◌, ◌≤◌, [], length, map, false, All, vec_len};
-ghost use Rattle.candump_log.specs.LinesState.{told};
+ghost use Rattle.candump_log.specs.LinesState.{source_state};
 ghost use Rattle.bench_model.specs.ValidBench.{most_buses};
 ghost use Rattle.bus_text.specs.Buffering.{output};
-ghost use Rattle.bus_text.specs.Fronts.{sink_told};
+ghost use Rattle.bus_text.specs.Prefixes.{sink_state};
 ghost use Rattle.bus_text.specs.Printing.{IsWritten as IsBusWritten};
 ghost use Rattle.bench_text.specs.Printing.{PrintsBuses, IsWritten};
 ghost use Rattle.bench_text.specs.BusAt.{HasLog, PrintsAt};
@@ -27,11 +27,11 @@ fn print_at<S: Source, K: Sink>(
 ) -> Result<(), BusRefused>
     requires bus { place < length image.old.buses }
     requires count { vec_len logs.old ≡ length image.old.buses }
-    requires log { HasLog place (map (λ log. told (S.left log) (S.taken log) (S.read_faults log) (S.ended log)) logs.old.items) }
+    requires log { HasLog place (map (λ log. source_state (S.left log) (S.taken log) (S.read_faults log) (S.ended log)) logs.old.items) }
 
     ensures prints { PrintsAt wants.now image.old place
-        (map (λ log. told (S.left log) (S.taken log) (S.read_faults log) (S.ended log)) logs.old.items)
-        (map (λ log. told (S.left log) (S.taken log) (S.read_faults log) (S.ended log)) logs.new.items)
+        (map (λ log. source_state (S.left log) (S.taken log) (S.read_faults log) (S.ended log)) logs.old.items)
+        (map (λ log. source_state (S.left log) (S.taken log) (S.read_faults log) (S.ended log)) logs.new.items)
         (output (K.written out.old) (K.write_faults out.old) buffer.old)
         (output (K.written out.new) (K.write_faults out.new) buffer.new) result }
     ensures written { IsBusWritten result buffer.new }
@@ -62,10 +62,10 @@ pub fn print_buses<S: Source, K: Sink>(
 
     // What was taken of each log, what was written, and the cause of the answer.
     ensures prints { PrintsBuses wants.now image.old
-        (map (λ log. told (S.left log) (S.taken log) (S.read_faults log) (S.ended log)) logs.old.items)
-        (map (λ log. told (S.left log) (S.taken log) (S.read_faults log) (S.ended log)) logs.new.items)
-        (sink_told (K.written out.old) (K.write_faults out.old))
-        (sink_told (K.written out.new) (K.write_faults out.new)) result }
+        (map (λ log. source_state (S.left log) (S.taken log) (S.read_faults log) (S.ended log)) logs.old.items)
+        (map (λ log. source_state (S.left log) (S.taken log) (S.read_faults log) (S.ended log)) logs.new.items)
+        (sink_state (K.written out.old) (K.write_faults out.old))
+        (sink_state (K.written out.new) (K.write_faults out.new)) result }
     ensures written { IsWritten result buffer.new }
     ensures count { vec_len logs.new ≡ vec_len logs.old }
     ensures bench { image.new ≡ image.old }

@@ -153,7 +153,7 @@ fn reads_and_writes_of_any_size_give_one_text(rt: HostRuntime) -> Result<(), Fai
     assert_text(&rt, rt.alloc(), 46, 1)
 }
 
-/// The second of three logs fails: the first text is whole, the second one goes this far, and the third log stands as
+/// The second of three logs fails: the first text is whole, the second one goes this far, and the third log is as
 /// it stood.
 fn assert_stop(
     rt: &impl Abort,
@@ -171,10 +171,10 @@ fn assert_stop(
     assert_eq!(rt; outcome.end, Err(BusesRefused::ReadFault { bus: 1 }));
     assert_eq!(rt; outcome.sink.bytes(), text.as_bytes());
     assert_eq!(rt; outcome.logs.len(), 3);
-    let mut front = [0u8; 46];
+    let mut prefix = [0u8; 46];
     let third = outcome.logs.get_mut(2).ok_or("three logs")?;
-    assert_eq!(rt; third.read(&mut front).ok(), Some(46));
-    assert_eq!(rt; front.as_slice(), &GROUP.log.as_bytes()[..46]);
+    assert_eq!(rt; third.read(&mut prefix).ok(), Some(46));
+    assert_eq!(rt; prefix.as_slice(), &GROUP.log.as_bytes()[..46]);
     Ok(())
 }
 

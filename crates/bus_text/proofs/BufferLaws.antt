@@ -98,9 +98,9 @@ same_error (Ok x) e h = absurd h.1
 same_error (Err y) e h = ap Err h.1
 
 -- one write more of a text
-pub front_more : (text : List ℕ) (n m : ℕ) (o was now : Option (List ℕ)) → n < length text → m ≤ length (between n (length text) text) → was ≡ append_known o (take n text) → now ≡ append_known was (take m (between n (length text) text)) →
+pub prefix_more : (text : List ℕ) (n m : ℕ) (o was now : Option (List ℕ)) → n < length text → m ≤ length (between n (length text) text) → was ≡ append_known o (take n text) → now ≡ append_known was (take m (between n (length text) text)) →
     (n + m ≤ length text) × (now ≡ append_known o (take (n + m) text))
-front_more text n m o was now some within written wrote = (
+prefix_more text n m o was now some within written wrote = (
   omega (arith, some, within, ap length (take_rest text n), length-drop n text),
   wrote ∙ ap (λ (l : List ℕ). append_known was (take m l)) (take_rest text n) ∙ ap (λ (k : Option (List ℕ)). append_known k (take m (drop n text))) written
       ∙ append_known-append o (take n text) (take m (drop n text)) ∙ ap (append_known o) (sym (take-add n m text)),

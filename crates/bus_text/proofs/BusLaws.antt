@@ -130,7 +130,7 @@ prints_prefix unread prefix {w} {bench} {bus} {l} {l'} {before} {now} {read} giv
       took = r.took;
       takes = r.takes;
       lines = read ++ u.0;
-      told = u.1;
+      known = u.1;
       read = read;
       unread = u.0;
       first = refl;
@@ -147,7 +147,7 @@ prints_ended {read = read} given ahead r all parted b = record {
   took = r.took;
   takes = r.takes;
   lines = read;
-  told = all;
+  known = all;
   read = read;
   unread = [];
   first = sym (append-nil read);
@@ -233,7 +233,7 @@ then_flushed p b = record {
   took = p.took;
   takes = p.takes;
   lines = p.lines;
-  told = p.told;
+  known = p.known;
   read = p.read;
   unread = p.unread;
   first = p.first;
@@ -282,7 +282,7 @@ nothing_read w bench bus log s =
         took = [];
         takes = record { left = nothing_left log.left; taken = append_known-nil log.taken; limit = lit≤ tt; later = omega arith };
         lines = ls.0;
-        told = ls.1;
+        known = ls.1;
         read = [];
         unread = ls.0;
         first = refl;
@@ -297,12 +297,12 @@ nothing_read w bench bus log s =
 -- on Ok the text of all lines of a log that tells its bytes was given
 whole_text : (w : WantList) (bench : Bench) (bus : BusPlace) (left : Option (List ℕ)) (lines : List (List ℕ)) {before now : Output} {given : List ℕ} → IfSome left (λ bytes. lines ≡ all_lines bytes)
     → given ≡ bus_text w bench bus (map line_of lines) → Buffers before given now → IfSome left (λ bytes. Buffers before (bus_text w bench bus (map line_of (all_lines bytes))) now)
-whole_text w bench bus None lines told e b = tt
-whole_text w bench bus (Some bytes) lines told e b = buffers_as (e ∙ ap (λ ls. bus_text w bench bus (map line_of ls)) told) b
+whole_text w bench bus None lines known e b = tt
+whole_text w bench bus (Some bytes) lines known e b = buffers_as (e ∙ ap (λ ls. bus_text w bench bus (map line_of ls)) known) b
 
 pub whole_on_ok : {w : WantList} {bench : Bench} {bus : BusPlace} {log log' : SourceState} {before now : Output} (result : Result (Unit {0}) BusRefused) → PrintsBus w bench bus log log' before now result →
     OnOk result (IfSome log.left (λ bytes. Buffers before (bus_text w bench bus (map line_of (all_lines bytes))) now))
 whole_on_ok {w = w} {bench = bench} {bus = bus} {log = log} (Ok u) p =
     let q = p.prints in
-    whole_text w bench bus log.left q.lines q.told (sym (append-nil q.given) ∙ sym (ap (λ (t : List ℕ). q.given ++ t) p.ends.0) ∙ q.prefix) q.buffers
+    whole_text w bench bus log.left q.lines q.known (sym (append-nil q.given) ∙ sym (ap (λ (t : List ℕ). q.given ++ t) p.ends.0) ∙ q.prefix) q.buffers
 whole_on_ok (Err why) p = tt

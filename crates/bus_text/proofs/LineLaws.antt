@@ -21,7 +21,7 @@ use Rattle.bus_text.specs.PrinterView.{AreRecords}
 later_record : (n : ℕ) → (suc n == 0) ≡ false
 later_record n = grind arith
 
--- no start stands before a later record
+-- no start is before a later record
 pub no_start : (bus number : ℕ) → (number ≡ 0 → ⊥) → start_at bus number ≡ []
 no_start bus zero h = absurd (h refl)
 no_start bus (suc n) h = ap (λ test. if test then item.Start bus 0 0 ∷ [] else []) (later_record n)

@@ -129,7 +129,7 @@ asks_nothing meaning (line.Remote micros key) h = tt
 asks_nothing meaning (line.Error micros id) h = tt
 asks_nothing meaning line.Bad h = tt
 
--- ---- where the record stands, once the decoder has heard the line
+-- ---- where the record is, once the decoder has heard the line
 
 place_of : ℕ → ℕ → ℕ → RecordPlace
 place_of bus number micros = record { bus = bus; number = number; version = 0; micros = micros }

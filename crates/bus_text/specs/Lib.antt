@@ -8,4 +8,4 @@ pub mod LineView
 pub mod PrinterView
 pub mod ImageView
 pub mod Refusals
-pub mod Fronts
+pub mod Prefixes

@@ -13,7 +13,7 @@ use Rattle.subscriber_text.specs.ItemText.{items_text}
 use Rattle.bus_text.specs.declared.bus.BusPlace.{BusPlace}
 use Rattle.bus_text.specs.BusText.{records_of, reading_items}
 
--- before the record of number 0 stands the start
+-- before the record of number 0 is the start
 abbrev pub start_at : ℕ → ℕ → List Item
 start_at bus number = if number == 0 then item.Start bus 0 0 ∷ [] else []
 

@@ -32,7 +32,7 @@ pub record PrintsValue (old : RecordPrinter) (value : SignalValue) (new : Record
   pub text : new.text.items
       ≡ old.text.items ++ covered_line old.wants.now old.place.bus old.message.items old.signals value
 
--- where the next line's own record stands, which is decoded as version 0
+-- where the next line's own record is, which is decoded as version 0
 abbrev pub next_place : BusDecoder → LogLine → RecordPlace
 next_place decoder line =
     record { bus = decoder.bus; number = decoder.next; version = 0; micros = stamp_of line }

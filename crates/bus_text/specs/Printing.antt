@@ -21,7 +21,7 @@ pub record PrintsLines (w : WantList) (bench : Bench) (bus : BusPlace) (log log'
   pub took : List ℕ
   pub takes : TakesBytes log log' took
   pub lines : List (List ℕ)
-  pub told : IfSome log.left (λ bytes. lines ≡ all_lines bytes)
+  pub known : IfSome log.left (λ bytes. lines ≡ all_lines bytes)
   pub read : List (List ℕ)
   pub unread : List (List ℕ)
   pub first : lines ≡ read ++ unread

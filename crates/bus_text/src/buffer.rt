@@ -3,7 +3,7 @@ ghost use Rattle.std.specs.Prelude.{◌≡◌, ◌<◌, [], length, IfOk, OnOk, 
 ghost use Rattle.port_io.specs.Causes.{HasCause};
 ghost use Rattle.subscriber_text.specs.ItemText.{item_text};
 ghost use Rattle.bus_text.specs.Buffering.{buffer_limit, output, Buffers, PrintsText};
-ghost use Rattle.bus_text.specs.Fronts.{sink_told, WritesFront};
+ghost use Rattle.bus_text.specs.Prefixes.{sink_state, WritesPrefix};
 
 use bench_model::Item;
 use port_io::{Failed, Sink};
@@ -33,9 +33,9 @@ impl Model for TextBuffer {
 }
 
 /// Writes a text until the sink fails, and answers how many bytes of it were written.
-fn write_front<K: Sink>(out: &mut K, text: &[u8]) -> (usize, Result<(), Failed>)
-    ensures front { WritesFront (sink_told (K.written out.old) (K.write_faults out.old)) text.now result.0 result.1
-        (sink_told (K.written out.new) (K.write_faults out.new)) }
+fn write_prefix<K: Sink>(out: &mut K, text: &[u8]) -> (usize, Result<(), Failed>)
+    ensures prefix { WritesPrefix (sink_state (K.written out.old) (K.write_faults out.old)) text.now result.0 result.1
+        (sink_state (K.written out.new) (K.write_faults out.new)) }
     ensures other { K.other out.new ≡ K.other out.old }
 {
     let mut count = 0;
@@ -66,7 +66,7 @@ impl TextBuffer {
         ensures cause { HasCause (K.write_faults out.old) (K.write_faults out.new) result }
         ensures other { K.other out.new ≡ K.other out.old }
     {
-        let (count, written) = write_front(out, &self.text);
+        let (count, written) = write_prefix(out, &self.text);
         let rest = self.text.len() - count;
         self.text.copy_within(count.., 0);
         self.text.truncate(rest);

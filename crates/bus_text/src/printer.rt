@@ -18,7 +18,7 @@ use subscriber_text::{
 #[derive(Drop)]
 pub(crate) struct RecordPrinter<'a> {
     pub(crate) wants: &'a Wants,
-    /// Where the record stands.
+    /// Where the record is.
     place: RecordPlace,
     /// The name of the message.
     message: Vec<u8>,
@@ -46,7 +46,7 @@ impl<'a> RecordPrinter<'a> {
         }
     }
 
-    /// Begins the text of the record that stands there.
+    /// Begins the text of the record that is there.
     pub(crate) fn begin(&mut self, place: RecordPlace)
         ensures wants { self.new.wants.now ≡ self.old.wants.now }
         ensures place { self.new.place ≡ place }

@@ -3,7 +3,7 @@ ghost use Rattle.std.specs.Prelude.{◌≡◌, ◌<◌, ◌≤◌, ◌+◌, ◌^
 ghost use Rattle.byte_forms.specs.Lines.{all_lines};
 ghost use Rattle.candump_log.specs.declared.log_line.LogLine.{LogLine as Line};
 ghost use Rattle.candump_log.specs.LineOf.{line_of};
-ghost use Rattle.candump_log.specs.LinesState.{told, fresh, log_of};
+ghost use Rattle.candump_log.specs.LinesState.{source_state, fresh, log_of};
 ghost use Rattle.decoded_list.specs.RecordsView.{one_or_none};
 ghost use Rattle.subscriber_text.specs.ItemText.{items_text};
 ghost use Rattle.bus_text.specs.BusText.{bus_at, reading_items, bus_text};
@@ -22,7 +22,7 @@ use port_io::{Sink, Source};
 use std::alloc::Global;
 use subscriber_text::{PrintRefused, Wants};
 
-/// The log of a bus that was printed, as it stands, and how that ended.
+/// The log of a bus that was printed, as it is, and how that ended.
 #[derive(Drop)]
 pub struct Printed<S> {
     pub log: S,
@@ -207,8 +207,8 @@ pub fn print_bus<S: Source, K: Sink>(
 
     // What was taken of the log, what of its text was given to the buffer, and the cause of the answer.
     ensures prints { PrintsBus wants.now image.old (bus_at image.old place)
-        (told (S.left log) (S.taken log) (S.read_faults log) (S.ended log))
-        (told (S.left result.log) (S.taken result.log) (S.read_faults result.log) (S.ended result.log))
+        (source_state (S.left log) (S.taken log) (S.read_faults log) (S.ended log))
+        (source_state (S.left result.log) (S.taken result.log) (S.read_faults result.log) (S.ended result.log))
         (output (K.written out.old) (K.write_faults out.old) buffer.old)
         (output (K.written out.new) (K.write_faults out.new) buffer.new) result.end }
     // On Ok the text of all lines was given, nothing else, nothing less.

@@ -1,4 +1,4 @@
--- So many digits spell a number below that power of ten.
+-- So many digits denote a number below that power of ten.
 use Rattle.std.proofs.Common.{◌≡◌, ℕ, ◌^◌, ◌<◌, ◌≤◌, true, ltb, List, [], ◌∷◌, length, arith}
 use Rattle.std.specs.Char.{digit_value, is_ascii_digit}
 use Rattle.std.specs.List.{list_all}
@@ -26,7 +26,7 @@ numeral_digits text numeral =
     let parts = and_parts (ltb 0 (length text)) (list_all is_ascii_digit text) numeral in
     (ltb-true 0 (length text) parts.0, parts.1)
 
--- k digits spell less than 10 ^ k
+-- k digits denote less than 10 ^ k
 pub number_of-below : (text : List ℕ) (k : ℕ) → is_numeral radixes.Decimal text ≡ true → length text ≤ k → number_of radixes.Decimal text < 10 ^ k
 number_of-below text k numeral short =
     let below : digits_value 10 text < 10 ^ length text = digits_value-lt 10 text (AllDigits_from text (numeral_digits text numeral).1) in

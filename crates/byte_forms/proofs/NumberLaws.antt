@@ -1,4 +1,4 @@
--- Numbers by their digits: a front of the digits spells no greater number.
+-- Numbers by their digits: a prefix of the digits denotes no greater number.
 use Rattle.std.proofs.Common.{◌≡◌, ℕ, ◌+◌, ◌*◌, ◌<◌, ◌≤◌, true, false, cond, leb, ltb, List, [], ◌∷◌, ◌++◌, length, get_or, take, drop, map, Some, None, refl, sym, ap, ◌∙◌, arith, inl, inr}
 use Rattle.std.specs.Char.{digit_value, is_ascii_hexdigit}
 use Rattle.std.specs.Int.Digits.{number_from_digits, number_from_digits_after}
@@ -30,10 +30,10 @@ number_of-take radix digits n =
     sym (map-append digit_value (take n digits) (drop n digits)) ∙ ap (map digit_value) (take-append-drop n digits) in
     let whole : number_of radix digits ≡ number_from_digits_after base (number_from_digits base (map digit_value (take n digits))) (map digit_value (drop n digits)) =
     digits_value_is base digits ∙ ap (number_from_digits base) (sym values) ∙ number_after_append base 0 (map digit_value (take n digits)) (map digit_value (drop n digits)) in
-    let front : number_of radix (take n digits) ≡ number_from_digits base (map digit_value (take n digits)) = digits_value_is base (take n digits) in
+    let prefix : number_of radix (take n digits) ≡ number_from_digits base (map digit_value (take n digits)) = digits_value_is base (take n digits) in
     let grows : number_from_digits base (map digit_value (take n digits)) ≤ number_from_digits_after base (number_from_digits base (map digit_value (take n digits))) (map digit_value (drop n digits)) =
     number_after_ge base (number_from_digits base (map digit_value (take n digits))) (map digit_value (drop n digits)) (base-pos radix) in
-    omega (arith, whole, front, grows)
+    omega (arith, whole, prefix, grows)
 
 -- what a test chose
 limited : (x limit : ℕ) (value : ℕ) → Some value ≡ cond (leb x limit) (Some x) None → (x ≤ limit) × (value ≡ x)

@@ -69,7 +69,7 @@ unfolding field_before
 field_before_takes class literal bytes field rest e =
     let step = bind_some (after_literal literal (drop_while (is_in class) bytes)) (λ rest. Some (take_while (is_in class) bytes, rest)) (field, rest) e in
     let behind : drop_while (is_in class) bytes ≡ literal ++ step.0 = after_literal_takes literal (drop_while (is_in class) bytes) step.0 step.1 in
-    let front : take_while (is_in class) bytes ≡ field = ap (λ (r : Option (List ℕ × List ℕ)). elim r [ None ↦ [] | Some x ↦ x.0 ]) step.2 in
+    let prefix : take_while (is_in class) bytes ≡ field = ap (λ (r : Option (List ℕ × List ℕ)). elim r [ None ↦ [] | Some x ↦ x.0 ]) step.2 in
     let after : step.0 ≡ rest = ap (λ (r : Option (List ℕ × List ℕ)). elim r [ None ↦ [] | Some x ↦ x.1 ]) step.2 in
     let all : list_all (is_in class) (take_while (is_in class) bytes) ≡ true = list_all-take_while (is_in class) bytes in
     let whole : take_while (is_in class) bytes ++ drop_while (is_in class) bytes ≡ bytes = take_while-append-drop_while (is_in class) bytes in

@@ -1,7 +1,7 @@
 -- Numbers in upper-case hexadecimal digits, as identifiers and bytes are written.
 use Rattle.std.specs.Prelude.{ℕ, zero, suc, ◌+◌, ◌/◌, ◌%◌, ◌++◌, List, [], ◌∷◌, nat_lt, if◌then◌else◌}
 
--- an upper-case hexadecimal digit: 48 is `0`, and 55 stands ten before `A`
+-- an upper-case hexadecimal digit: 48 is `0`, and 55 is ten before `A`
 abbrev pub hex_digit : ℕ → ℕ
 hex_digit n = if nat_lt n 10 then 48 + n else 55 + n
 

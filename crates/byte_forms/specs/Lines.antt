@@ -6,7 +6,7 @@ abbrev pub onto_first : ℕ → List (List ℕ) → List (List ℕ)
 onto_first b [] = (b ∷ []) ∷ []
 onto_first b (line ∷ lines) = (b ∷ line) ∷ lines
 
--- the parts of a text that end in a line feed, without it, and what stands after the last one where
+-- the parts of a text that end in a line feed, without it, and what is after the last one where
 -- that isn't empty
 unfoldable pub all_lines : List ℕ → List (List ℕ)
 all_lines [] = []

@@ -17,7 +17,7 @@ abbrev pub digit_class : Radix → Class
 digit_class radixes.Decimal = classes.DecimalDigit
 digit_class radixes.Hexadecimal = classes.HexadecimalDigit
 
--- the number that digits spell, the first one counting most; zeros at the front count nothing
+-- the number that digits denote, the first one counting most; zeros at the front count nothing
 abbrev pub number_of : Radix → List ℕ → ℕ
 number_of radix digits = digits_value (base_of radix) digits
 
@@ -25,12 +25,12 @@ number_of radix digits = digits_value (base_of radix) digits
 abbrev pub is_numeral : Radix → List ℕ → Bool
 is_numeral radix text = nat_lt 0 (length text) && list_all (is_in (digit_class radix)) text
 
--- the number that a text of digits spells, where it is at most the limit
+-- the number that a text of digits denotes, where it is at most the limit
 unfoldable pub number_up_to : Radix → ℕ → List ℕ → Option ℕ
 number_up_to radix limit text =
     if is_numeral radix text && nat_le (number_of radix text) limit then Some (number_of radix text) else None
 
--- the byte that the two hexadecimal digits at the front spell, and the text after them
+-- the byte that the two hexadecimal digits at the front denote, and the text after them
 unfoldable pub hexadecimal_byte : List ℕ → Option (ℕ × List ℕ)
 hexadecimal_byte [] = None
 hexadecimal_byte (high ∷ []) = None

@@ -1,6 +1,6 @@
 //! Lines, literals, runs of bytes and numerals: the forms that the readers of the bench's files share, and the
 //! hexadecimal digits that printers write.
-//! It stands on std alone and takes no memory. Some readers take the front of a byte slice and give the rest,
+//! It builds on std alone and takes no memory. Some readers take the front of a byte slice and give the rest,
 //! others judge a whole text; all contracts but that of `next_line` are equations with functions on lists
 //! (`specs/`), about which `proofs/` has the laws that join pieces to a text and take it apart again.
 //! Main theorem: `next_line` gives the first of all lines of a text and a rest that has the others.

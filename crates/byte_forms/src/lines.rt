@@ -6,7 +6,7 @@ ghost use Rattle.byte_forms.specs.Lines.{all_lines, IsCut};
 use crate::{Class, run};
 
 /// The first line of the text, without its line feed, and the text after that. A text that isn't
-/// empty has a line, and no line feed needs to stand at its end.
+/// empty has a line, and no line feed needs to be at its end.
 pub fn next_line(bytes: &[u8]) -> Option<(&[u8], &[u8])>
     ensures none { IsNone result ↔ (bytes.now ≡ []) }
     ensures line { IfSome result (λ split. all_lines bytes.now ≡ split.0.now ∷ all_lines split.1.now) }

@@ -6,7 +6,7 @@ ghost use Rattle.byte_forms.specs.Numerals.{base_of, digit_class, number_up_to};
 
 use crate::Class;
 
-/// In which digits a number stands.
+/// In which digits a number is.
 #[derive(Clone, Copy, Debug, PartialEq, Eq)]
 pub enum Radix {
     Decimal,
@@ -54,7 +54,7 @@ fn with_digit(base: u64, value: u64, digit: u8, limit: u64) -> Option<u64>
     if sum <= limit { Some(sum) } else { None }
 }
 
-/// The number that the text spells in digits, where it is at most the limit. Zeros at the front count
+/// The number that the text denotes in digits, where it is at most the limit. Zeros at the front count
 /// nothing, however many there are.
 pub fn number_up_to(radix: Radix, limit: u64, text: &[u8]) -> Option<u64>
     ensures value { result ≡ number_up_to radix limit text.now }

@@ -6,7 +6,7 @@ ghost use Rattle.byte_forms.specs.Classes.{is_in, drop_while};
 
 use crate::Class;
 
-/// How many bytes of the class stand at the front.
+/// How many bytes of the class are at the front.
 fn run_len(class: Class, bytes: &[u8]) -> usize
     ensures value { result ≡ prefix_len (is_in class) bytes.now }
     ensures within { result ≤ length bytes.now }

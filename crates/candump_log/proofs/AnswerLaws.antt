@@ -37,7 +37,7 @@ too_long_exactly before now (Ok None) a = (λ no. absurd cc, λ end. absurd (let
 too_long_exactly before now (Err refused.ReadFault) a = (λ no. absurd cc, λ end. absurd (omega (arith, a.2.1, end.taken)))
 too_long_exactly before now (Err refused.TooLong) a = (λ _. record { given = a.0.given; ready = a.0.is_not_ready; ended = a.1.ended; taken = a.2 }, λ _. refl)
 
--- where the log has ended and no line stands ready, none comes
+-- where the log has ended and no line is ready, none comes
 pub ended_gives_none : (before now : LinesState) (r : Result (Option LogLine) LinesRefused) → Advances before now → Answers before r now → before.ready ≡ false → before.source.ended ≡ true →
     r ≡ Ok None
 ended_gives_none before now (Ok (Some line)) adv a none end = absurd (by_asked (a.asked none))
@@ -49,7 +49,7 @@ ended_gives_none before now (Ok None) adv a none end = refl
 ended_gives_none before now (Err why) adv a none end =
     absurd (let ended : now.source.ended ≡ true = ap (λ (s : SourceState). s.ended) (adv.unasked (inr (inl end))) ∙ end in let no = a.1.ended in cc)
 
--- where a line stands ready it is given
+-- where a line is ready it is given
 pub ready_gives : (before now : LinesState) (r : Result (Option LogLine) LinesRefused) → Advances before now → Answers before r now → before.ready ≡ true →
     IsOkAnd r (λ line. IsSome line) × (now.source ≡ before.source)
 ready_gives before now (Ok (Some line)) adv a ready = (refl, adv.unasked (inl ready))

@@ -1,4 +1,4 @@
--- Blanks and words at the front of a text: what is read there is the longest run, and what stands behind it ends the run.
+-- Blanks and words at the front of a text: what is read there is the longest run, and what is behind it ends the run.
 use Rattle.std.proofs.Common.{◌≡◌, ℕ, ◌≤◌, Bool, true, false, not, cond, leb, List, [], ◌∷◌, ◌++◌, length, take, drop, Option, Some, None, refl, sym, ap, ◌∙◌, arith, inl, inr, ◌||◌}
 use Rattle.std.specs.Prelude.{◌==◌}
 use Rattle.std.specs.List.{list_all, prefix_len}
@@ -40,7 +40,7 @@ prefix_len-before p (x ∷ xs) ys all stop =
     let parts = and_parts (p x) (list_all p xs) all in
     rw parts.0 (let e : prefix_len p (xs ++ ys) ≡ length xs = prefix_len-before p xs ys parts.1 stop in omega arith)
 
--- what stands behind the run at the front, where that has a byte
+-- what is behind the run at the front, where that has a byte
 abbrev after_run : (ℕ → Bool) → List ℕ → Option (List ℕ)
 after_run p bytes = cond (leb 1 (prefix_len p bytes)) (Some (drop (prefix_len p bytes) bytes)) None
 

@@ -15,7 +15,7 @@ use Rattle.candump_log.specs.LogLines.{whole_lines, NoFeed}
 use Rattle.candump_log.specs.LinesState.{LinesState, log_limit, last_bytes, log_by, joined, log_of}
 use Rattle.candump_log.specs.NextLine.{GivesNone}
 use Rattle.candump_log.specs.Steps.{IsInLog, unsaid, work, long_place, LetsGo, Reads, further, Fetches, StopsFetching}
-use Rattle.candump_log.specs.LinesView.{is_ready, texts_to, shown, Stands, Keeps}
+use Rattle.candump_log.specs.LinesView.{is_ready, texts_to, shown, IsAt, Keeps}
 use Rattle.candump_log.proofs.CutLaws.{whole_lines-plain, NoFeed-append, has_feed-none}
 use Rattle.candump_log.proofs.LineRuleLaws.{texts_at, is_closed, was_open, Went, advances, Asked, Goes, no_ask, unasked_by}
 use Rattle.candump_log.proofs.GivenLineLaws.{Ends, was_not_ready}
@@ -25,8 +25,8 @@ use Rattle.candump_log.proofs.GivenLineLaws.{Ends, was_not_ready}
 not_ready_open : (ended : Bool) (held : List ℕ) (long : Bool) → ended ≡ false → NoFeed held → is_ready ended held long ≡ false
 not_ready_open ended held long open' plain = let none = has_feed-none held plain in rw (none, open') refl
 
-long_told : (ended : Bool) (place : Place) (was bytes : List ℕ) → Stands ended place was bytes → NoFeed was → line_limit < length was → Stands ended (long_place place) [] bytes
-long_told ended place was bytes s plain more = record {
+long_known : (ended : Bool) (place : Place) (was bytes : List ℕ) → IsAt ended place was bytes → NoFeed was → line_limit < length was → IsAt ended (long_place place) [] bytes
+long_known ended place was bytes s plain more = record {
   done = s.done;
   dropped = s.dropped ++ was;
   parted = s.parted ∙ ap (λ (l : List ℕ). s.done ++ l) (sym (append-nil (s.dropped ++ was)));
@@ -38,9 +38,9 @@ long_told ended place was bytes s plain more = record {
   over = λ _. omega (arith, length-append s.dropped was);
 }
 
-long_by : (o : Option (List ℕ)) (ended : Bool) (place : Place) (was : List ℕ) → IfSome o (Stands ended place was) → NoFeed was → line_limit < length was → IfSome o (Stands ended (long_place place) [])
+long_by : (o : Option (List ℕ)) (ended : Bool) (place : Place) (was : List ℕ) → IfSome o (IsAt ended place was) → NoFeed was → line_limit < length was → IfSome o (IsAt ended (long_place place) [])
 long_by None ended place was s plain more = tt
-long_by (Some bytes) ended place was s plain more = long_told ended place was bytes s plain more
+long_by (Some bytes) ended place was s plain more = long_known ended place was bytes s plain more
 
 long_asked : (start : LinesState) (src : SourceState) (was : List ℕ) (place : Place) → src.ended ≡ false → NoFeed was → Asked start src was place → Asked start src [] (long_place place)
 long_asked start src was place open' plain (inl same) =
@@ -61,7 +61,7 @@ lets_go start src other was held place now g open' plain (inr e) =
     let keeps : Keeps src [] (long_place place) = record {
       numbers = numbers;
       within = g.keeps.within;
-      stands = long_by (log_by place.taken src.taken) src.ended place was g.keeps.stands plain e.0;
+      is_at = long_by (log_by place.taken src.taken) src.ended place was g.keeps.is_at plain e.0;
       end = g.keeps.end;
     } in
     subst P (sym e.1) (subst Q (sym e.2) (
@@ -93,9 +93,9 @@ within-more n (Some bytes) more within = omega (arith, within, length-append byt
 fetched_parted : (a b c d : List ℕ) → (a ++ (b ++ c)) ++ d ≡ a ++ (b ++ (c ++ d))
 fetched_parted a b c d = append_assoc a (b ++ c) d ∙ ap (λ (l : List ℕ). a ++ l) (append_assoc b c d)
 
-fetched_told : (was_ended ended : Bool) (place : Place) (was bytes more : List ℕ) → was_ended ≡ false → Stands was_ended place was bytes →
-    Stands ended (further place (length more)) (was ++ more) (bytes ++ more) × (texts_to place.start (bytes ++ more) ≡ texts_to place.start bytes)
-fetched_told was_ended ended place was bytes more open' s =
+fetched_known : (was_ended ended : Bool) (place : Place) (was bytes more : List ℕ) → was_ended ≡ false → IsAt was_ended place was bytes →
+    IsAt ended (further place (length more)) (was ++ more) (bytes ++ more) × (texts_to place.start (bytes ++ more) ≡ texts_to place.start bytes)
+fetched_known was_ended ended place was bytes more open' s =
     let within : place.start ≤ length bytes = omega (arith, s.start, ap length s.parted, length-append s.done (s.dropped ++ was)) in (
       record {
         done = s.done;
@@ -111,10 +111,10 @@ fetched_told was_ended ended place was bytes more open' s =
       ap all_lines (take-append-le place.start bytes more within),
     )
 
-fetched_by : (o : Option (List ℕ)) (was_ended ended : Bool) (place : Place) (was more : List ℕ) → was_ended ≡ false → IfSome o (Stands was_ended place was) →
-    IfSome (append_known o more) (Stands ended (further place (length more)) (was ++ more)) × (option_map (texts_to place.start) (append_known o more) ≡ option_map (texts_to place.start) o)
+fetched_by : (o : Option (List ℕ)) (was_ended ended : Bool) (place : Place) (was more : List ℕ) → was_ended ≡ false → IfSome o (IsAt was_ended place was) →
+    IfSome (append_known o more) (IsAt ended (further place (length more)) (was ++ more)) × (option_map (texts_to place.start) (append_known o more) ≡ option_map (texts_to place.start) o)
 fetched_by None was_ended ended place was more open' s = (tt, refl)
-fetched_by (Some bytes) was_ended ended place was more open' s = let r = fetched_told was_ended ended place was bytes more open' s in (r.0, ap (λ (ts : List (List ℕ)). Some ts) r.1)
+fetched_by (Some bytes) was_ended ended place was more open' s = let r = fetched_known was_ended ended place was bytes more open' s in (r.0, ap (λ (ts : List (List ℕ)). Some ts) r.1)
 
 -- the end was said at a read of none, and nothing is left then
 said : (n : ℕ) (was now' : Bool) → was ≡ false → now' ≡ cond (n == 0) true was → (n == 0) ≡ now'
@@ -183,28 +183,28 @@ fetches start src src' other other' was held place now ended g open' plain f o =
     let r = f.reads in
     let n = g.keeps.numbers in
     let said' : (f.n == 0) ≡ src'.ended = said f.n src.ended src'.ended open' r.ended in
-    let t = fetched_by (log_by place.taken src.taken) src.ended src'.ended place was r.bytes open' g.keeps.stands in
+    let t = fetched_by (log_by place.taken src.taken) src.ended src'.ended place was r.bytes open' g.keeps.is_at in
     let more = log_by-more place.taken src.taken r.bytes g.keeps.within in
     let l = length-append was r.bytes in
     let grew : start.taken ≤ place.taken = omega (arith, g.went.count) in
-    let N : ℕ → Type 0 = λ k. IfSome (log_by (place.taken + k) src'.taken) (Stands src'.ended (further place k) (was ++ r.bytes)) × (option_map (texts_to place.start) (log_by (place.taken + k) src'.taken) ≡ option_map (texts_to place.start) (log_by place.taken src.taken)) in
-    let T : Option (List ℕ) → Type 0 = λ x. IfSome x (Stands src'.ended (further place (length r.bytes)) (was ++ r.bytes)) × (option_map (texts_to place.start) x ≡ option_map (texts_to place.start) (log_by place.taken src.taken)) in
+    let N : ℕ → Type 0 = λ k. IfSome (log_by (place.taken + k) src'.taken) (IsAt src'.ended (further place k) (was ++ r.bytes)) × (option_map (texts_to place.start) (log_by (place.taken + k) src'.taken) ≡ option_map (texts_to place.start) (log_by place.taken src.taken)) in
+    let T : Option (List ℕ) → Type 0 = λ x. IfSome x (IsAt src'.ended (further place (length r.bytes)) (was ++ r.bytes)) × (option_map (texts_to place.start) x ≡ option_map (texts_to place.start) (log_by place.taken src.taken)) in
     let log_is : log_by (place.taken + length r.bytes) src'.taken ≡ append_known (log_by place.taken src.taken) r.bytes = ap (log_by (place.taken + length r.bytes)) r.taken ∙ more in
-    let told' = subst N r.count (subst T (sym log_is) t) in
+    let known' = subst N r.count (subst T (sym log_is) t) in
     let W : ℕ → Type 0 = λ k. IfSome src'.taken (λ bytes. place.taken + k ≤ length bytes) in
     let X : Option (List ℕ) → Type 0 = λ x. IfSome x (λ bytes. place.taken + length r.bytes ≤ length bytes) in
     let within = subst W r.count (subst X (sym r.taken) (within-more place.taken src.taken r.bytes g.keeps.within)) in
     let keeps : Keeps src' (was ++ r.bytes) (further place f.n) = record {
       numbers = record { limit = f.limit; given = n.given; behind = omega (arith, n.behind, r.count); long = λ h. let b = n.long h in omega (arith, r.count) };
       within = within;
-      stands = told'.0;
+      is_at = known'.0;
       end = λ e. none_left f.n src.left src'.left r.bytes (said' ∙ e) r.count r.left r.end;
     } in
     let P : List ℕ → Type 0 = λ h. Goes start src' other' h now in
     let Q : Place → Type 0 = λ p. Goes start src' other' (was ++ r.bytes) p in (
       subst P (sym r.held_is) (subst Q (sym f.now_is) (record {
         keeps = keeps;
-        texts = told'.1 ∙ g.texts;
+        texts = known'.1 ∙ g.texts;
         given = g.given;
         went = reads_went start src src' other other' was held place f.n g.went g.keeps.within r o;
         asked = inr (later_asked start src src' was place f.n open' plain f.room said' grew g.asked);
@@ -214,24 +214,24 @@ fetches start src src' other other' was held place now ended g open' plain f o =
 
 -- ---- a fault
 
-stopped_told : (ended : Bool) (place : Place) (was bytes : List ℕ) → ended ≡ false → Stands ended place was bytes → NoFeed was → texts_to place.start bytes ≡ whole_lines bytes
-stopped_told ended place was bytes open' s plain =
+stopped_known : (ended : Bool) (place : Place) (was bytes : List ℕ) → ended ≡ false → IsAt ended place was bytes → NoFeed was → texts_to place.start bytes ≡ whole_lines bytes
+stopped_known ended place was bytes open' s plain =
     texts_at s.done (s.dropped ++ was) bytes place.start s.parted s.start
     ∙ sym (whole_lines-plain s.done (s.dropped ++ was) (was_open s.done ended (s.dropped ++ was) s.closed open') (NoFeed-append s.dropped was s.plain plain))
     ∙ ap whole_lines (sym s.parted)
 
-stopped_by : (o : Option (List ℕ)) (ended : Bool) (place : Place) (was : List ℕ) → ended ≡ false → IfSome o (Stands ended place was) → NoFeed was → option_map (texts_to place.start) o ≡ option_map whole_lines o
+stopped_by : (o : Option (List ℕ)) (ended : Bool) (place : Place) (was : List ℕ) → ended ≡ false → IfSome o (IsAt ended place was) → NoFeed was → option_map (texts_to place.start) o ≡ option_map whole_lines o
 stopped_by None ended place was open' s plain = refl
-stopped_by (Some bytes) ended place was open' s plain = ap (λ (ts : List (List ℕ)). Some ts) (stopped_told ended place was bytes open' s plain)
+stopped_by (Some bytes) ended place was open' s plain = ap (λ (ts : List (List ℕ)). Some ts) (stopped_known ended place was bytes open' s plain)
 
 -- a source that tells the same, but for its count
 failed_keeps : (src src' : SourceState) (was : List ℕ) (place : Place) → Keeps src was place → src'.left ≡ src.left → src'.taken ≡ src.taken → src'.ended ≡ src.ended → Keeps src' was place
 failed_keeps src src' was place k left taken ended =
-    let T : Option (List ℕ) → Type 0 = λ t. IfSome t (λ bytes. place.taken ≤ length bytes) × IfSome (log_by place.taken t) (Stands src'.ended place was) in
-    let E : Bool → Type 0 = λ b. IfSome (log_by place.taken src.taken) (Stands b place was) in
+    let T : Option (List ℕ) → Type 0 = λ t. IfSome t (λ bytes. place.taken ≤ length bytes) × IfSome (log_by place.taken t) (IsAt src'.ended place was) in
+    let E : Bool → Type 0 = λ b. IfSome (log_by place.taken src.taken) (IsAt b place was) in
     let L : Option (List ℕ) → Type 0 = λ l. IfSome l (λ x. x ≡ []) in
-    let t = subst T (sym taken) (k.within, subst E (sym ended) k.stands) in
-    record { numbers = k.numbers; within = t.0; stands = t.1; end = λ e. subst L (sym left) (k.end (sym ended ∙ e)) }
+    let t = subst T (sym taken) (k.within, subst E (sym ended) k.is_at) in
+    record { numbers = k.numbers; within = t.0; is_at = t.1; end = λ e. subst L (sym left) (k.end (sym ended ∙ e)) }
 
 failed_went : (start : LinesState) (src src' : SourceState) (other other' : OtherSide) (taken : ℕ) → Went start src other taken → src'.left ≡ src.left → src'.taken ≡ src.taken → src.read_faults ≤ src'.read_faults → other' ≡ other → Went start src' other' taken
 failed_went start src src' other other' taken w left given_by later o = record {
@@ -268,7 +268,7 @@ stops names start src src' other other' was held place now refused.ReadFault g o
         advances start src' other' was place true went (λ nothing. absurd (no_ask start first (still_open g.asked) (omega (arith, s.1)) nothing)) keeps,
         (
           no_line start src src' other' was place g.texts g.given g.asked open' plain f.taken f.ended,
-          record { ended = f.ended ∙ open'; whole = stopped_by (log_by place.taken src'.taken) src'.ended place was (f.ended ∙ open') keeps.stands plain },
+          record { ended = f.ended ∙ open'; whole = stopped_by (log_by place.taken src'.taken) src'.ended place was (f.ended ∙ open') keeps.is_at plain },
           (omega (arith, g.went.later, f.later, f.rose), s.1),
         ),
       )),
@@ -293,7 +293,7 @@ stops names start src src' other other' was held place now refused.TooLong g ope
         advances start src' other' was place true went (λ nothing. let same = unasked_by start src was place g.asked nothing in (e ∙ same.0, same.1)) keeps,
         (
           no_line start src src' other' was place g.texts g.given g.asked open' plain taken ended,
-          record { ended = ended ∙ open'; whole = stopped_by (log_by place.taken src'.taken) src'.ended place was (ended ∙ open') keeps.stands plain },
+          record { ended = ended ∙ open'; whole = stopped_by (log_by place.taken src'.taken) src'.ended place was (ended ∙ open') keeps.is_at plain },
           s.2,
         ),
       )),

@@ -1,4 +1,4 @@
--- The identifier and the body of a frame: what is read at the front of a text is spelled there, and what is spelled
+-- The identifier and the body of a frame: what is read at the front of a text is encoded there, and what is encoded
 -- there is read.
 use Rattle.std.proofs.Common.{◌≡◌, ◌⊎◌, ℕ, ◌≤◌, Bool, true, false, cond, leb, eqb, List, [], ◌∷◌, ◌++◌, length, codes, Option, Some, None, refl, sym, ap, subst, ◌∙◌, arith, inl, inr, append_assoc}
 use Rattle.std.specs.Prelude.{◌==◌, ◌&&◌, ◌||◌}
@@ -14,11 +14,11 @@ use Rattle.byte_forms.specs.Pieces.{field_before}
 use Rattle.byte_forms.proofs.PieceLaws.{bind_some, field_before-append, field_before_takes}
 use Rattle.byte_forms.proofs.NumberLaws.{number_up_to_takes, number_up_to-is}
 use Rattle.bench_model.specs.declared.database.Key.{Key}
-use Rattle.candump_log.specs.Data.{SpellsData}
+use Rattle.candump_log.specs.Data.{EncodesData}
 use Rattle.candump_log.specs.Line.{standard_limit, extended_limit, IsTail, IsIdentifier, IsLengthCode, IsLength, IsClassic, IsFd, IsRemote, IsBody}
-use Rattle.candump_log.specs.LineOf.{key_of, key_front, bytes_front, after_length, after_code, fd_front, classic_front, body_front}
+use Rattle.candump_log.specs.LineOf.{key_of, key_prefix, bytes_prefix, after_length, after_code, fd_prefix, classic_prefix, body_prefix}
 use Rattle.candump_log.proofs.BlankLaws.{differs, blank_fails}
-use Rattle.candump_log.proofs.DataLaws.{data_takes, data-spelled, StopsData, tail_stops}
+use Rattle.candump_log.proofs.DataLaws.{data_takes, data-encoded, StopsData, tail_stops}
 
 -- ---- the identifier
 
@@ -67,9 +67,9 @@ key_of-is digits key is = by_form is.form
         let eight = f.0 in
         rw (eight, n) (ap (λ (k : Key). Some k) (key_same key true _ f.1 is.id))
 
-pub key_front_takes : (bytes rest : List ℕ) (key : Key) → key_front bytes ≡ Some (key, rest) → (id : List ℕ) × IsIdentifier id key × (bytes ≡ id ++ (codes "#" ++ rest))
-unfolding key_front
-key_front_takes bytes rest key e =
+pub key_prefix_takes : (bytes rest : List ℕ) (key : Key) → key_prefix bytes ≡ Some (key, rest) → (id : List ℕ) × IsIdentifier id key × (bytes ≡ id ++ (codes "#" ++ rest))
+unfolding key_prefix
+key_prefix_takes bytes rest key e =
     let f = bind_some (field_before classes.HexadecimalDigit (codes "#") bytes) _ _ e in
     let k = bind_some (key_of f.0.0) _ _ f.2 in
     let field = field_before_takes classes.HexadecimalDigit (codes "#") bytes f.0.0 f.0.1 f.1 in
@@ -84,13 +84,13 @@ key_front_takes bytes rest key e =
     second : (x y : Key × List ℕ) → Some x ≡ Some y → x.1 ≡ y.1
     second x y e = let same : x ≡ y = cc in ap (λ (p : Key × List ℕ). p.1) same
 
-pub key_front-append : (id rest : List ℕ) (key : Key) → IsIdentifier id key → key_front (id ++ (codes "#" ++ rest)) ≡ Some (key, rest)
-unfolding key_front
-key_front-append id rest key is =
+pub key_prefix-append : (id rest : List ℕ) (key : Key) → IsIdentifier id key → key_prefix (id ++ (codes "#" ++ rest)) ≡ Some (key, rest)
+unfolding key_prefix
+key_prefix-append id rest key is =
     let all : list_all (is_in classes.HexadecimalDigit) id ≡ true = (and_parts _ (list_all (is_in classes.HexadecimalDigit) id) is.numeral).1 in
     rw (field_before-append classes.HexadecimalDigit (codes "#") id rest all refl, key_of-is id key is) refl
 
--- ---- what may stand behind the data
+-- ---- what may be behind the data
 
 after_code_takes : (text : List ℕ) → (code : List ℕ) × IsLengthCode code × (text ≡ code ++ after_code text)
 after_code_takes [] = ([], inl refl, refl)
@@ -158,23 +158,23 @@ record HasBody (text : List ℕ) (found : Content) : Type 0 where
 same_body : (text : List ℕ) (x y : Content) → Some x ≡ Some y → HasBody text x → HasBody text y
 same_body text x y e h = let P : Content → Type 0 = HasBody text in let same : x ≡ y = cc in subst P same h
 
-classic_takes : (text : List ℕ) → HasBody text (Some (bytes_front 8 true text).0, after_code (bytes_front 8 true text).1)
+classic_takes : (text : List ℕ) → HasBody text (Some (bytes_prefix 8 true text).0, after_code (bytes_prefix 8 true text).1)
 classic_takes text =
     let d = data_takes 8 text in
-    let c = after_code_takes (bytes_front 8 true text).1 in
+    let c = after_code_takes (bytes_prefix 8 true text).1 in
     record {
       body = d.0 ++ c.0;
-      parted = d.1 ∙ ap (λ (r : List ℕ). d.0 ++ r) c.2 ∙ sym (append_assoc d.0 c.0 (after_code (bytes_front 8 true text).1));
+      parted = d.1 ∙ ap (λ (r : List ℕ). d.0 ++ r) c.2 ∙ sym (append_assoc d.0 c.0 (after_code (bytes_prefix 8 true text).1));
       is = inl (record { digits = d.0; code = c.0; text = refl; bytes_are = d.2; few = d.3; code_is = c.1 });
     }
 
-fd_takes : (bs : List ℕ) (found : Content) → fd_front bs ≡ Some found → HasBody (35 ∷ bs) found
+fd_takes : (bs : List ℕ) (found : Content) → fd_prefix bs ≡ Some found → HasBody (35 ∷ bs) found
 fd_takes [] found e = absurd cc
 fd_takes (flags ∷ bs) found e =
     elim (cases_Bool (is_ascii_hexdigit flags)) [
       | inl hex ↦
           let d = data_takes 64 bs in
-          same_body (35 ∷ flags ∷ bs) (Some (bytes_front 64 true bs).0, (bytes_front 64 true bs).1) found (rw hex at e)
+          same_body (35 ∷ flags ∷ bs) (Some (bytes_prefix 64 true bs).0, (bytes_prefix 64 true bs).1) found (rw hex at e)
           (record {
             body = 35 ∷ flags ∷ d.0;
             parted = ap (λ (r : List ℕ). 35 ∷ flags ∷ r) d.1;
@@ -200,8 +200,8 @@ remote_takes b bs letter =
       is = record { letter = b; length_digit = l.0; code = c.0; text = refl; letter_is = letter_of b letter; length_is = l.1; code_is = c.1 };
     }
 
-body_takes : (text : List ℕ) (found : Content) → body_front text ≡ Some found → HasBody text found
-unfolding body_front
+body_takes : (text : List ℕ) (found : Content) → body_prefix text ≡ Some found → HasBody text found
+unfolding body_prefix
 body_takes [] found e = same_body [] _ found e (classic_takes [])
 body_takes (b ∷ bs) found e =
     elim (cases_Bool (b == 35)) [
@@ -215,18 +215,18 @@ body_takes (b ∷ bs) found e =
           ]
     ]
 
-pub body_front_takes : (text tail : List ℕ) (content : Option (List ℕ)) → body_front text ≡ Some (content, tail) → (body : List ℕ) × IsBody body content × (text ≡ body ++ tail)
-body_front_takes text tail content e = let h = body_takes text (content, tail) e in (h.body, h.is, h.parted)
+pub body_prefix_takes : (text tail : List ℕ) (content : Option (List ℕ)) → body_prefix text ≡ Some (content, tail) → (body : List ℕ) × IsBody body content × (text ≡ body ++ tail)
+body_prefix_takes text tail content e = let h = body_takes text (content, tail) e in (h.body, h.is, h.parted)
 
 -- a text whose first byte is neither a `#` nor a letter is read as a classic frame's
 abbrev StopsLetters : List ℕ → Type 0
 StopsLetters [] = Unit {0}
 StopsLetters (b ∷ bs) = ((b == 35) ≡ false) × (((b == 82) || (b == 114)) ≡ false)
 
-body_front-classic : (text : List ℕ) → StopsLetters text → body_front text ≡ classic_front text
-unfolding body_front
-body_front-classic [] stop = refl
-body_front-classic (b ∷ bs) stop = rw (stop.0, stop.1) refl
+body_prefix-classic : (text : List ℕ) → StopsLetters text → body_prefix text ≡ classic_prefix text
+unfolding body_prefix
+body_prefix-classic [] stop = refl
+body_prefix-classic (b ∷ bs) stop = rw (stop.0, stop.1) refl
 
 tail_plain : (tail : List ℕ) → IsTail tail → StopsLetters tail
 tail_plain [] is = tt
@@ -236,33 +236,33 @@ code_plain : (code tail : List ℕ) → IsLengthCode code → IsTail tail → St
 code_plain code tail (inl none) is = rw none (tail_plain tail is)
 code_plain code tail (inr some) is = rw some.2 (refl, refl)
 
-data_plain : (digits bytes rest : List ℕ) → SpellsData digits bytes → StopsLetters rest → StopsLetters (digits ++ rest)
-data_plain digits [] rest spells stop = rw spells stop
-data_plain digits (b ∷ bytes) rest spells stop =
-    let l = spells.1 in
+data_plain : (digits bytes rest : List ℕ) → EncodesData digits bytes → StopsLetters rest → StopsLetters (digits ++ rest)
+data_plain digits [] rest encodes stop = rw encodes stop
+data_plain digits (b ∷ bytes) rest encodes stop =
+    let l = encodes.1 in
     let hash : (l.high == 35) ≡ false = differs is_ascii_hexdigit l.high 35 l.high_is refl in
     let big : (l.high == 82) ≡ false = differs is_ascii_hexdigit l.high 82 l.high_is refl in
     let small : (l.high == 114) ≡ false = differs is_ascii_hexdigit l.high 114 l.high_is refl in
     rw l.parted (hash, rw (big, small) refl)
 
-classic-spelled : (body tail bytes : List ℕ) → IsClassic body bytes → IsTail tail → body_front (body ++ tail) ≡ Some (Some bytes, tail)
-classic-spelled body tail bytes is tail_is =
+classic-encoded : (body tail bytes : List ℕ) → IsClassic body bytes → IsTail tail → body_prefix (body ++ tail) ≡ Some (Some bytes, tail)
+classic-encoded body tail bytes is tail_is =
     let whole : body ++ tail ≡ is.digits ++ (is.code ++ tail) = ap (λ (b : List ℕ). b ++ tail) is.text ∙ append_assoc is.digits is.code tail in
     let plain = data_plain is.digits bytes (is.code ++ tail) is.bytes_are (code_plain is.code tail is.code_is tail_is) in
-    let read = data-spelled 8 is.digits bytes (is.code ++ tail) is.bytes_are is.few (code_stops is.code tail is.code_is tail_is) in
-    ap body_front whole ∙ body_front-classic (is.digits ++ (is.code ++ tail)) plain
+    let read = data-encoded 8 is.digits bytes (is.code ++ tail) is.bytes_are is.few (code_stops is.code tail is.code_is tail_is) in
+    ap body_prefix whole ∙ body_prefix-classic (is.digits ++ (is.code ++ tail)) plain
     ∙ ap (λ (x : List ℕ × List ℕ). Some (Some x.0, after_code x.1)) read ∙ ap (λ (r : List ℕ). Some (Some bytes, r)) (after_code-append is.code tail is.code_is tail_is)
 
-fd-spelled : (body tail bytes : List ℕ) → IsFd body bytes → IsTail tail → body_front (body ++ tail) ≡ Some (Some bytes, tail)
-unfolding body_front
-fd-spelled body tail bytes is tail_is =
-    let read = data-spelled 64 is.digits bytes tail is.bytes_are is.few (tail_stops tail tail_is) in
+fd-encoded : (body tail bytes : List ℕ) → IsFd body bytes → IsTail tail → body_prefix (body ++ tail) ≡ Some (Some bytes, tail)
+unfolding body_prefix
+fd-encoded body tail bytes is tail_is =
+    let read = data-encoded 64 is.digits bytes tail is.bytes_are is.few (tail_stops tail tail_is) in
     let hex = is.flags_are in
     rw (is.text, hex, read) refl
 
-remote-spelled : (body tail : List ℕ) → IsRemote body → IsTail tail → body_front (body ++ tail) ≡ Some (None, tail)
-unfolding body_front
-remote-spelled body tail is tail_is =
+remote-encoded : (body tail : List ℕ) → IsRemote body → IsTail tail → body_prefix (body ++ tail) ≡ Some (None, tail)
+unfolding body_prefix
+remote-encoded body tail is tail_is =
     let whole : (is.length_digit ++ is.code) ++ tail ≡ is.length_digit ++ (is.code ++ tail) = append_assoc is.length_digit is.code tail in
     let length_is = after_length-append is.length_digit is.code tail is.length_is is.code_is tail_is in
     let code_is = after_code-append is.code tail is.code_is tail_is in
@@ -278,7 +278,7 @@ remote-spelled body tail is tail_is =
     letter_found b (inl e) = rw e refl
     letter_found b (inr e) = rw e refl
 
-pub body_front-append : (body tail : List ℕ) (content : Option (List ℕ)) → IsBody body content → IsTail tail → body_front (body ++ tail) ≡ Some (content, tail)
-body_front-append body tail (Some bytes) (inl classic) tail_is = classic-spelled body tail bytes classic tail_is
-body_front-append body tail (Some bytes) (inr fd) tail_is = fd-spelled body tail bytes fd tail_is
-body_front-append body tail None is tail_is = remote-spelled body tail is tail_is
+pub body_prefix-append : (body tail : List ℕ) (content : Option (List ℕ)) → IsBody body content → IsTail tail → body_prefix (body ++ tail) ≡ Some (content, tail)
+body_prefix-append body tail (Some bytes) (inl classic) tail_is = classic-encoded body tail bytes classic tail_is
+body_prefix-append body tail (Some bytes) (inr fd) tail_is = fd-encoded body tail bytes fd tail_is
+body_prefix-append body tail None is tail_is = remote-encoded body tail is tail_is

@@ -15,7 +15,7 @@ use Rattle.candump_log.specs.Routing.{place_of}
 use Rattle.candump_log.specs.NextLine.{Advances, GivesLine, AnswersOn}
 use Rattle.candump_log.specs.Cut.{has_feed}
 use Rattle.candump_log.specs.Steps.{route, IsInLog, next_place, GivesWhole, TakesLast}
-use Rattle.candump_log.specs.LinesView.{is_ready, texts_to, shown, Stands, Keeps}
+use Rattle.candump_log.specs.LinesView.{is_ready, texts_to, shown, IsAt, Keeps}
 use Rattle.candump_log.proofs.CutLaws.{has_feed-some}
 use Rattle.candump_log.proofs.LineRuleLaws.{OneMore, texts_at, whole_by, last_by, advances, Asked, Goes, unasked_by}
 
@@ -57,8 +57,8 @@ gives_by names start src other was held piece place at failed routed g m is aske
 
 -- the state after the next line keeps the rule
 keeps_next : (src : SourceState) (held : List ℕ) (place : Place) (at : ℕ) → IsInLog (next_place place at) held → IfSome src.taken (λ bytes. place.taken ≤ length bytes) →
-    IfSome (log_by place.taken src.taken) (Stands src.ended (next_place place at) held) → (src.ended ≡ true → IfSome src.left (λ left. left ≡ [])) → Keeps src held (next_place place at)
-keeps_next src held place at numbers within stands end = record { numbers = numbers; within = within; stands = stands; end = end }
+    IfSome (log_by place.taken src.taken) (IsAt src.ended (next_place place at) held) → (src.ended ≡ true → IfSome src.left (λ left. left ≡ [])) → Keeps src held (next_place place at)
+keeps_next src held place at numbers within is_at end = record { numbers = numbers; within = within; is_at = is_at; end = end }
 
 abbrev pub Ends : List (List ℕ) → LinesState → Result (Option Routed) LinesRefused → SourceState → OtherSide → List ℕ → Place → Bool → Type 0
 Ends names start result src other held place failed =
@@ -67,9 +67,9 @@ Ends names start result src other held place failed =
 pub gives_whole : (names : List (List ℕ)) (start : LinesState) (src : SourceState) (other : OtherSide) (was held : List ℕ) (place now : Place) (failed : Bool) (routed : Routed) →
     Goes start src other was place → GivesWhole names was place routed held now → Ends names start (Ok (Some routed)) src other held now failed
 gives_whole names start src other was held place now failed routed g w =
-    let m = whole_by names (log_by place.taken src.taken) src.ended place was held w.piece g.keeps.stands w.plain w.parted in
+    let m = whole_by names (log_by place.taken src.taken) src.ended place was held w.piece g.keeps.is_at w.plain w.parted in
     let at = place.taken - length held in
-    let keeps = keeps_next src held place at (whole_numbers place was held w.piece g.keeps.numbers w.parted) g.keeps.within m.stands g.keeps.end in
+    let keeps = keeps_next src held place at (whole_numbers place was held w.piece g.keeps.numbers w.parted) g.keeps.within m.is_at g.keeps.end in
     let ready = ready_feed src.ended was place.long w.piece held w.parted in
     let P : Place → Type 0 = λ p. Ends names start (Ok (Some routed)) src other held p failed in
     subst P (sym w.now_is) (
@@ -94,16 +94,16 @@ ready_last ended (b ∷ bs) long end some =
       | inr none ↦ rw (none, end, many) refl
     ]
 
-none_told : (ended : Bool) (place : Place) (was bytes : List ℕ) → Stands ended place was bytes → length was ≡ 0 → place.long ≡ false → texts_to place.start bytes ≡ all_lines bytes
-none_told ended place was bytes s none short =
+none_known : (ended : Bool) (place : Place) (was bytes : List ℕ) → IsAt ended place was bytes → length was ≡ 0 → place.long ≡ false → texts_to place.start bytes ≡ all_lines bytes
+none_known ended place was bytes s none short =
     let P : List ℕ → Type 0 = λ d. bytes ≡ s.done ++ (d ++ was) in
     let Q : List ℕ → Type 0 = λ w. bytes ≡ s.done ++ w in
     let e : bytes ≡ s.done = subst Q (nil_from_length was none) (subst P (s.short short) s.parted) ∙ append-nil s.done in
     texts_at s.done (s.dropped ++ was) bytes place.start s.parted s.start ∙ ap all_lines (sym e)
 
-none_by : (o : Option (List ℕ)) (ended : Bool) (place : Place) (was : List ℕ) → IfSome o (Stands ended place was) → length was ≡ 0 → place.long ≡ false → option_map (texts_to place.start) o ≡ option_map all_lines o
+none_by : (o : Option (List ℕ)) (ended : Bool) (place : Place) (was : List ℕ) → IfSome o (IsAt ended place was) → length was ≡ 0 → place.long ≡ false → option_map (texts_to place.start) o ≡ option_map all_lines o
 none_by None ended place was s none short = refl
-none_by (Some bytes) ended place was s none short = ap (λ (ts : List (List ℕ)). Some ts) (none_told ended place was bytes s none short)
+none_by (Some bytes) ended place was s none short = ap (λ (ts : List (List ℕ)). Some ts) (none_known ended place was bytes s none short)
 
 not_ready_done : (ended : Bool) (was : List ℕ) (long : Bool) → length was ≡ 0 → long ≡ false → is_ready ended was long ≡ false
 not_ready_done true [] long none short = rw short refl
@@ -125,12 +125,12 @@ takes_last names start src other was held place now failed None g end plain t =
       advances start src other was place failed g.went (unasked_by start src was place g.asked) g.keeps,
       (
         record { texts = g.texts; given = g.given; was_not_ready = was_not_ready start src was place none g.asked; is_not_ready = none },
-        record { ended = end; left = g.keeps.end end; all = none_by (log_by place.taken src.taken) src.ended place was g.keeps.stands t.2 t.3 },
+        record { ended = end; left = g.keeps.end end; all = none_by (log_by place.taken src.taken) src.ended place was g.keeps.is_at t.2 t.3 },
       ),
     ))
 takes_last names start src other was held place now failed (Some routed) g end plain t =
-    let m = last_by names (log_by place.taken src.taken) src.ended place was end g.keeps.stands plain t.some in
-    let keeps = keeps_next src [] place place.taken (last_numbers place was g.keeps.numbers t.some) g.keeps.within m.stands g.keeps.end in
+    let m = last_by names (log_by place.taken src.taken) src.ended place was end g.keeps.is_at plain t.some in
+    let keeps = keeps_next src [] place place.taken (last_numbers place was g.keeps.numbers t.some) g.keeps.within m.is_at g.keeps.end in
     let P : List ℕ → Type 0 = λ h. Ends names start (Ok (Some routed)) src other h now failed in
     let Q : Place → Type 0 = λ p. Ends names start (Ok (Some routed)) src other [] p failed in
     subst P (sym t.held_is) (subst Q (sym t.now_is) (

@@ -10,7 +10,7 @@ use lib.Seq.{take-add}
 pub grown : (xs ys : List ℕ) (start end k n : ℕ) → start ≤ end → end ≤ length xs → n ≤ length ys
     → slice_range (put_mid end k xs ys) start (end + n) ≡ slice_range xs start end ++ take n ys
 grown xs ys start end k n ordered within fits =
-    let front = length-take-le end xs within in
+    let prefix = length-take-le end xs within in
     let held = drop start (take end xs) in
     let len : length held ≡ end - start = omega (arith, length-drop start (take end xs)) in
     let sum : end + n - start ≡ (end - start) + n = omega arith in
@@ -38,9 +38,9 @@ consumed xs start end count inside =
 -- after a move to the front
 pub moved : (xs : List ℕ) (start end : ℕ) → start ≤ end → end ≤ length xs → slice_range (copy_within xs start end 0) 0 (end - start) ≡ slice_range xs start end
 moved xs start end ordered within =
-    let front = take (end - start) (drop start xs) in
-    let long : length front ≡ end - start - 0 = omega (arith, length-between xs start end within) in
-    take_at front (drop (0 + (end - start)) xs) (end - start - 0) long
+    let prefix = take (end - start) (drop start xs) in
+    let long : length prefix ≡ end - start - 0 = omega (arith, length-between xs start end within) in
+    take_at prefix (drop (0 + (end - start)) xs) (end - start - 0) long
 
 -- a buffer keeps its length over a read
 pub filled : (xs ys old : List ℕ) (n a k : ℕ) → n ≡ length xs → length ys ≡ k → a + k ≤ length xs → take n (put_mid a k xs ys ++ drop (length (put_mid a k xs ys)) old) ≡ put_mid a k xs ys

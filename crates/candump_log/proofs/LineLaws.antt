@@ -1,4 +1,4 @@
--- A text is read as the line that it spells, and its interface where that stands.
+-- A text is read as the line that it encodes, and its interface where that is.
 use Rattle.std.proofs.Common.{◌≡◌, ◌⊎◌, ℕ, ◌+◌, ◌-◌, ◌^◌, ◌<◌, ◌≤◌, Bool, true, false, cond, leb, List, ◌++◌, length, codes, Option, Some, None, refl, sym, ap, subst, ◌∙◌, arith, inl, inr, append_assoc, length-append, ◌↔◌, IsNone, IfSome}
 use Rattle.std.specs.Option.{option_map}
 use Rattle.std.specs.List.{list_all}
@@ -13,22 +13,22 @@ use Rattle.candump_log.specs.declared.log_line.LogLine.{LogLine}
 use Rattle.candump_log.specs.declared.log_line.LogLine.TheVariants as line
 use Rattle.candump_log.specs.declared.log_line.Span.{Span}
 use Rattle.candump_log.specs.Data.{data_limit}
-use Rattle.candump_log.specs.Line.{standard_limit, extended_limit, is_blank, AreDigits, LinePieces, front_text, behind_text, stamp, IsIdentifier, IsBody, frame_line, line_from, Spells, IsLine, IsInterface, KeyFits, KeepsLimits}
-use Rattle.candump_log.specs.LineOf.{stamp_front, after_blanks, after_word, is_tail, key_front, body_front, parts_of, read_line, line_or_bad, line_of, interface_of}
+use Rattle.candump_log.specs.Line.{standard_limit, extended_limit, is_blank, AreDigits, LinePieces, prefix_text, behind_text, stamp, IsIdentifier, IsBody, frame_line, line_from, Encodes, IsLine, IsInterface, KeyFits, KeepsLimits}
+use Rattle.candump_log.specs.LineOf.{stamp_prefix, after_blanks, after_word, is_tail, key_prefix, body_prefix, parts_of, read_line, line_or_bad, line_of, interface_of}
 use Rattle.candump_log.proofs.BlankLaws.{StopsAt, after_blanks_takes, after_blanks-append, after_word_takes, after_word-append, is_tail-true, is_tail-is, word_stops, blanks_stop, run_stops}
-use Rattle.candump_log.proofs.StampLaws.{stamp_text, stamp_front_takes, stamp_front-text}
-use Rattle.candump_log.proofs.FrameLaws.{key_front_takes, key_front-append, body_front_takes, body_front-append}
+use Rattle.candump_log.proofs.StampLaws.{stamp_text, stamp_prefix_takes, stamp_prefix-text}
+use Rattle.candump_log.proofs.FrameLaws.{key_prefix_takes, key_prefix-append, body_prefix_takes, body_prefix-append}
 
--- the line of a text and where its interface stands
+-- the line of a text and where its interface is
 pub record Reads (text : List ℕ) (parts : Span × LogLine) : Type 0 where
   pub pieces : LinePieces
-  pub spells : Spells text pieces parts.1
-  pub at : parts.0.at ≡ length (front_text pieces)
+  pub encodes : Encodes text pieces parts.1
+  pub at : parts.0.at ≡ length (prefix_text pieces)
   pub end : parts.0.end ≡ parts.0.at + length pieces.interface
 
-front_append : (seconds micros gap rest : List ℕ) →
+prefix_append : (seconds micros gap rest : List ℕ) →
     (codes "(" ++ (seconds ++ (codes "." ++ (micros ++ (codes ")" ++ gap))))) ++ rest ≡ stamp_text seconds micros (gap ++ rest)
-front_append seconds micros gap rest = simp append_assoc
+prefix_append seconds micros gap rest = simp append_assoc
 
 tested : (b : Bool) (x y : Span × LogLine) → cond b (Some x) None ≡ Some y → (b ≡ true) × (x ≡ y)
 tested true x y e = (refl, cc)
@@ -37,29 +37,29 @@ tested false x y e = absurd cc
 parts_of_takes : (text : List ℕ) (parts : Span × LogLine) → length text ≤ 512 → parts_of text ≡ Some parts → Reads text parts
 unfolding parts_of
 parts_of_takes text parts short e =
-    let m = bind_some (stamp_front text) _ _ e in
+    let m = bind_some (stamp_prefix text) _ _ e in
     let w = bind_some (after_blanks m.0.1) _ _ m.2 in
     let b = bind_some (after_word w.0) _ _ w.2 in
     let f = bind_some (after_blanks b.0) _ _ b.2 in
-    let k = bind_some (key_front f.0) _ _ f.2 in
-    let c = bind_some (body_front k.0.1) _ _ k.2 in
+    let k = bind_some (key_prefix f.0) _ _ f.2 in
+    let c = bind_some (body_prefix k.0.1) _ _ k.2 in
     let test = tested (is_tail c.0.1) (record { at = length text - length w.0; end = length text - length b.0 }, line_from m.0.0 k.0.0 c.0.0) parts c.2 in
-    let s = stamp_front_takes text m.0.1 m.0.0 m.1 in
+    let s = stamp_prefix_takes text m.0.1 m.0.0 m.1 in
     let gap = after_blanks_takes m.0.1 w.0 w.1 in
     let word = after_word_takes w.0 b.0 b.1 in
     let space = after_blanks_takes b.0 f.0 f.1 in
-    let id = key_front_takes f.0 k.0.1 k.0.0 k.1 in
-    let body = body_front_takes k.0.1 c.0.1 c.0.0 c.1 in
+    let id = key_prefix_takes f.0 k.0.1 k.0.0 k.1 in
+    let body = body_prefix_takes k.0.1 c.0.1 c.0.0 c.1 in
     let p : LinePieces = record { seconds = s.0; micros = s.1; gap = gap.0; interface = word.0; space = space.0; id = id.0; body = body.0; tail = c.0.1 } in
     let behind : b.0 ≡ behind_text p = space.2 ∙ ap (λ (r : List ℕ). space.0 ++ r) (id.2 ∙ ap (λ (r : List ℕ). id.0 ++ (codes "#" ++ r)) body.2) in
-    let begun : text ≡ front_text p ++ w.0 = s.2.text ∙ ap (stamp_text s.0 s.1) gap.2 ∙ sym (front_append s.0 s.1 gap.0 w.0) in
-    let whole : text ≡ front_text p ++ (p.interface ++ behind_text p) = begun ∙ ap (λ (r : List ℕ). front_text p ++ r) (word.2 ∙ ap (λ (r : List ℕ). word.0 ++ r) behind) in
-    let long : length text ≡ length (front_text p) + length w.0 = ap length begun ∙ length-append (front_text p) w.0 in
+    let begun : text ≡ prefix_text p ++ w.0 = s.2.text ∙ ap (stamp_text s.0 s.1) gap.2 ∙ sym (prefix_append s.0 s.1 gap.0 w.0) in
+    let whole : text ≡ prefix_text p ++ (p.interface ++ behind_text p) = begun ∙ ap (λ (r : List ℕ). prefix_text p ++ r) (word.2 ∙ ap (λ (r : List ℕ). word.0 ++ r) behind) in
+    let long : length text ≡ length (prefix_text p) + length w.0 = ap length begun ∙ length-append (prefix_text p) w.0 in
     let word_long : length w.0 ≡ length word.0 + length b.0 = ap length word.2 ∙ length-append word.0 b.0 in
     let P : Span × LogLine → Type 0 = Reads text in
     subst P test.1 (record {
       pieces = p;
-      spells = record {
+      encodes = record {
         parted = whole;
         short = short;
         seconds = s.2.seconds_are;
@@ -88,26 +88,26 @@ id_stops id rest key is =
     by_form (inl f) = omega (arith, f.0)
     by_form (inr f) = omega (arith, f.0)
 
--- where the interface of these pieces stands
+-- where the interface of these pieces is
 abbrev pub span_of : LinePieces → Span
-span_of p = record { at = length (front_text p); end = length (front_text p) + length p.interface }
+span_of p = record { at = length (prefix_text p); end = length (prefix_text p) + length p.interface }
 
-parts_of-spelled : (text : List ℕ) (p : LinePieces) (l : LogLine) → Spells text p l → parts_of text ≡ Some (span_of p, l)
+parts_of-encoded : (text : List ℕ) (p : LinePieces) (l : LogLine) → Encodes text p l → parts_of text ≡ Some (span_of p, l)
 unfolding parts_of
-parts_of-spelled text p l s =
+parts_of-encoded text p l s =
     let field = p.id ++ (codes "#" ++ (p.body ++ p.tail)) in
-    let begun : text ≡ stamp_text p.seconds p.micros (p.gap ++ (p.interface ++ behind_text p)) = s.parted ∙ front_append p.seconds p.micros p.gap (p.interface ++ behind_text p) in
-    let stamp_is = ap stamp_front begun ∙ stamp_front-text p.seconds p.micros (p.gap ++ (p.interface ++ behind_text p)) s.seconds s.micros in
+    let begun : text ≡ stamp_text p.seconds p.micros (p.gap ++ (p.interface ++ behind_text p)) = s.parted ∙ prefix_append p.seconds p.micros p.gap (p.interface ++ behind_text p) in
+    let stamp_is = ap stamp_prefix begun ∙ stamp_prefix-text p.seconds p.micros (p.gap ++ (p.interface ++ behind_text p)) s.seconds s.micros in
     let gap_is = after_blanks-append p.gap (p.interface ++ behind_text p) s.gap (word_stops p.interface (behind_text p) s.interface) in
     let word_is = after_word-append p.interface (behind_text p) s.interface (blanks_stop p.space field s.space) in
     let space_is = after_blanks-append p.space field s.space (id_stops p.id (codes "#" ++ (p.body ++ p.tail)) s.key s.id) in
-    let key_is = key_front-append p.id (p.body ++ p.tail) s.key s.id in
-    let body_is = body_front-append p.body p.tail s.content s.body s.tail in
+    let key_is = key_prefix-append p.id (p.body ++ p.tail) s.key s.id in
+    let body_is = body_prefix-append p.body p.tail s.content s.body s.tail in
     let tail_is = is_tail-is p.tail s.tail in
-    let long : length text ≡ length (front_text p) + (length p.interface + length (behind_text p)) =
-    ap length s.parted ∙ length-append (front_text p) (p.interface ++ behind_text p) ∙ ap (λ (n : ℕ). length (front_text p) + n) (length-append p.interface (behind_text p)) in
-    let at : length text - length (p.interface ++ behind_text p) ≡ length (front_text p) = omega (arith, long, length-append p.interface (behind_text p)) in
-    let end : length text - length (behind_text p) ≡ length (front_text p) + length p.interface = omega (arith, long) in
+    let long : length text ≡ length (prefix_text p) + (length p.interface + length (behind_text p)) =
+    ap length s.parted ∙ length-append (prefix_text p) (p.interface ++ behind_text p) ∙ ap (λ (n : ℕ). length (prefix_text p) + n) (length-append p.interface (behind_text p)) in
+    let at : length text - length (p.interface ++ behind_text p) ≡ length (prefix_text p) = omega (arith, long, length-append p.interface (behind_text p)) in
+    let end : length text - length (behind_text p) ≡ length (prefix_text p) + length p.interface = omega (arith, long) in
     rw (stamp_is, gap_is, word_is, space_is, key_is, body_is, tail_is)
     (ap (λ (x : Span × LogLine). Some x) (same_parts _ _ _ _ _ l at end (sym s.line_is)))
   where
@@ -122,9 +122,9 @@ read_line_takes text parts e =
       | inr long ↦ absurd (cc (rw long at e))
     ]
 
-pub read_line-spelled : (text : List ℕ) (p : LinePieces) (l : LogLine) → Spells text p l → read_line text ≡ Some (span_of p, l)
+pub read_line-encoded : (text : List ℕ) (p : LinePieces) (l : LogLine) → Encodes text p l → read_line text ≡ Some (span_of p, l)
 unfolding read_line
-read_line-spelled text p l s = rw (le-leb (length text) 512 s.short) (parts_of-spelled text p l s)
+read_line-encoded text p l s = rw (le-leb (length text) 512 s.short) (parts_of-encoded text p l s)
 
 -- no pieces are a bad line's
 from_not_bad : (micros : ℕ) (key : Key) (content : Option (List ℕ)) → line.Bad ≡ line_from micros key content → ⊥
@@ -138,11 +138,11 @@ from_not_bad micros key content e =
     by_content None e = cc
     by_content (Some bytes) e = cc
 
-spelled_line : (text : List ℕ) (p : LinePieces) (l : LogLine) → Spells text p l → IsLine text l
-spelled_line text p line.Bad s = absurd (from_not_bad (stamp p) s.key s.content s.line_is)
-spelled_line text p (line.Frame micros key bytes) s = (p, s)
-spelled_line text p (line.Remote micros key) s = (p, s)
-spelled_line text p (line.Error micros id) s = (p, s)
+encoded_line : (text : List ℕ) (p : LinePieces) (l : LogLine) → Encodes text p l → IsLine text l
+encoded_line text p line.Bad s = absurd (from_not_bad (stamp p) s.key s.content s.line_is)
+encoded_line text p (line.Frame micros key bytes) s = (p, s)
+encoded_line text p (line.Remote micros key) s = (p, s)
+encoded_line text p (line.Error micros id) s = (p, s)
 
 -- a text is the line that is read
 pub line_of-is : (text : List ℕ) → IsLine text (line_of text)
@@ -150,27 +150,27 @@ unfolding line_of
 line_of-is text = by_read (read_line text) refl
   where
     by_read : (r : Option (Span × LogLine)) → read_line text ≡ r → IsLine text (line_or_bad r)
-    by_read None e = λ p l s. let some = read_line-spelled text p l s in absurd cc
-    by_read (Some parts) e = let r = read_line_takes text parts e in spelled_line text r.pieces parts.1 r.spells
+    by_read None e = λ p l s. let some = read_line-encoded text p l s in absurd cc
+    by_read (Some parts) e = let r = read_line_takes text parts e in encoded_line text r.pieces parts.1 r.encodes
 
-line_of-spelled : (text : List ℕ) (p : LinePieces) (l : LogLine) → Spells text p l → line_of text ≡ l
+line_of-encoded : (text : List ℕ) (p : LinePieces) (l : LogLine) → Encodes text p l → line_of text ≡ l
 unfolding line_of
-line_of-spelled text p l s = ap line_or_bad (read_line-spelled text p l s)
+line_of-encoded text p l s = ap line_or_bad (read_line-encoded text p l s)
 
-line_of-bad : (text : List ℕ) → ((p : LinePieces) (l : LogLine) → Spells text p l → ⊥) → line_of text ≡ line.Bad
+line_of-bad : (text : List ℕ) → ((p : LinePieces) (l : LogLine) → Encodes text p l → ⊥) → line_of text ≡ line.Bad
 unfolding line_of
 line_of-bad text none = by_read (read_line text) refl
   where
     by_read : (r : Option (Span × LogLine)) → read_line text ≡ r → line_or_bad r ≡ line.Bad
     by_read None e = refl
-    by_read (Some parts) e = let r = read_line_takes text parts e in absurd (none r.pieces parts.1 r.spells)
+    by_read (Some parts) e = let r = read_line_takes text parts e in absurd (none r.pieces parts.1 r.encodes)
 
 -- and no other
 pub line_of-one : (text : List ℕ) (l : LogLine) → IsLine text l → line_of text ≡ l
 line_of-one text line.Bad is = line_of-bad text is
-line_of-one text (line.Frame micros key bytes) is = line_of-spelled text is.0 _ is.1
-line_of-one text (line.Remote micros key) is = line_of-spelled text is.0 _ is.1
-line_of-one text (line.Error micros id) is = line_of-spelled text is.0 _ is.1
+line_of-one text (line.Frame micros key bytes) is = line_of-encoded text is.0 _ is.1
+line_of-one text (line.Remote micros key) is = line_of-encoded text is.0 _ is.1
+line_of-one text (line.Error micros id) is = line_of-encoded text is.0 _ is.1
 
 -- ---- the interface
 
@@ -183,15 +183,15 @@ unfolding interface_of
 interface_of-is text = by_read (read_line text) refl
   where
     by_read : (r : Option (Span × LogLine)) → read_line text ≡ r → InterfaceAt text (option_map (λ (x : Span × LogLine). x.0) r)
-    by_read None e = λ p l s. let some = read_line-spelled text p l s in absurd cc
-    by_read (Some parts) e = let r = read_line_takes text parts e in record { pieces = r.pieces; line = parts.1; spells = r.spells; at = r.at; end = r.end }
+    by_read None e = λ p l s. let some = read_line-encoded text p l s in absurd cc
+    by_read (Some parts) e = let r = read_line_takes text parts e in record { pieces = r.pieces; line = parts.1; encodes = r.encodes; at = r.at; end = r.end }
 
 -- ---- limits
 
 number_fits : (least most : ℕ) (text : List ℕ) → AreDigits least most text → number_of radixes.Decimal text < 10 ^ most
 number_fits least most text are = number_of-below text most are.0 are.2
 
-stamp-below : (text : List ℕ) (p : LinePieces) (l : LogLine) → Spells text p l → stamp p < 10 ^ 18
+stamp-below : (text : List ℕ) (p : LinePieces) (l : LogLine) → Encodes text p l → stamp p < 10 ^ 18
 stamp-below text p l s =
     let a = number_fits 1 12 p.seconds s.seconds in
     let b = number_fits 6 6 p.micros s.micros in
@@ -235,7 +235,7 @@ line_of-keeps text = by_read (read_line text) refl
     by_read None e = tt
     by_read (Some parts) e =
         let r = read_line_takes text parts e in
-        let s = r.spells in
+        let s = r.encodes in
         let P : LogLine → Type 0 = KeepsLimits in
         subst P (sym s.line_is) (from_keeps (stamp r.pieces) r.pieces.id r.pieces.body s.key s.content (stamp-below text r.pieces parts.1 s) s.id s.body)
 
@@ -247,13 +247,13 @@ span_same s a b e f = rw (← e, ← f) refl
 some_first : (r : Option (Span × LogLine)) (s : Span) (l : LogLine) → r ≡ Some (s, l) → option_map (λ (x : Span × LogLine). x.0) r ≡ Some s
 some_first r s l e = rw e refl
 
--- the interface stands at one place
+-- the interface is at one place
 pub interface_of-one : (text : List ℕ) (span : Span) → IsInterface text span → interface_of text ≡ Some span
 unfolding interface_of
 interface_of-one text span is =
     some_first (read_line text) span is.line
-    (read_line-spelled text is.pieces is.line is.spells
-    ∙ ap (λ (s : Span). Some (s, is.line)) (sym (span_same span (length (front_text is.pieces)) (length (front_text is.pieces) + length is.pieces.interface) is.at (omega (arith, is.at, is.end)))))
+    (read_line-encoded text is.pieces is.line is.encodes
+    ∙ ap (λ (s : Span). Some (s, is.line)) (sym (span_same span (length (prefix_text is.pieces)) (length (prefix_text is.pieces) + length is.pieces.interface) is.at (omega (arith, is.at, is.end)))))
 
 -- and is at the place that is read, none exactly in a bad line
 pub interface_exactly : (text : List ℕ) (span : Span) → (interface_of text ≡ Some span) ↔ IsInterface text span
@@ -264,7 +264,7 @@ interface-none text r e = let P : Option Span → Type 0 = λ o. IsNone o ↔ Is
   where
     by_place : (o : Option Span) → InterfaceAt text o → IsNone o ↔ IsLine text line.Bad
     by_place None at = (λ _. at, λ _. refl)
-    by_place (Some span) at = (λ no. absurd cc, λ bad. absurd (bad at.pieces at.line at.spells))
+    by_place (Some span) at = (λ no. absurd cc, λ bad. absurd (bad at.pieces at.line at.encodes))
 
 pub no_interface_exactly : (text : List ℕ) → (interface_of text ≡ None) ↔ IsLine text line.Bad
 no_interface_exactly text =
@@ -287,16 +287,16 @@ interface-place text r e =
     by_place None at = (tt, tt)
     by_place (Some span) at =
         let p = at.pieces in
-        let word = at.spells.interface.0 in
-        let long : length text ≡ length (front_text p) + (length p.interface + length (behind_text p)) =
-        ap length at.spells.parted ∙ length-append (front_text p) (p.interface ++ behind_text p) ∙ ap (λ (n : ℕ). length (front_text p) + n) (length-append p.interface (behind_text p)) in
+        let word = at.encodes.interface.0 in
+        let long : length text ≡ length (prefix_text p) + (length p.interface + length (behind_text p)) =
+        ap length at.encodes.parted ∙ length-append (prefix_text p) (p.interface ++ behind_text p) ∙ ap (λ (n : ℕ). length (prefix_text p) + n) (length-append p.interface (behind_text p)) in
         (at, (omega (arith, at.at, at.end, word), omega (arith, at.at, at.end, long)))
 
 pub read_line-bad : (text : List ℕ) → None ≡ read_line text → IsLine text line.Bad
-read_line-bad text e = λ p l s. let some = read_line-spelled text p l s in absurd cc
+read_line-bad text e = λ p l s. let some = read_line-encoded text p l s in absurd cc
 
 pub read_line-line : (text : List ℕ) (parts : Span × LogLine) → Some parts ≡ read_line text → IsLine text parts.1
-read_line-line text parts e = let r = read_line_takes text parts (sym e) in spelled_line text r.pieces parts.1 r.spells
+read_line-line text parts e = let r = read_line_takes text parts (sym e) in encoded_line text r.pieces parts.1 r.encodes
 
 pub read_line-keeps : (text : List ℕ) (parts : Span × LogLine) → Some parts ≡ read_line text → KeepsLimits parts.1
 unfolding line_of

@@ -14,12 +14,12 @@ use Rattle.candump_log.specs.declared.place.Routed.{Routed}
 use Rattle.candump_log.specs.Line.{line_limit}
 use Rattle.candump_log.specs.LineOf.{read_line, line_of}
 use Rattle.candump_log.specs.LogLines.{NoFeed}
-use Rattle.candump_log.specs.LinesState.{LinesState, log_limit, told, log_by, joined, log_of, fresh}
+use Rattle.candump_log.specs.LinesState.{LinesState, log_limit, source_state, log_by, joined, log_of, fresh}
 use Rattle.candump_log.specs.Routing.{place_of}
-use Rattle.candump_log.specs.NextLine.{IsFront, AsksNothing, Advances}
+use Rattle.candump_log.specs.NextLine.{IsPrefix, AsksNothing, Advances}
 use Rattle.candump_log.specs.Cut.{cut, Cut}
 use Rattle.candump_log.specs.Steps.{route, next_place}
-use Rattle.candump_log.specs.LinesView.{is_ready, texts_to, shown, Stands, Keeps}
+use Rattle.candump_log.specs.LinesView.{is_ready, texts_to, shown, IsAt, Keeps}
 use Rattle.candump_log.proofs.CutLaws.{closed_line, all_lines-line, all_lines-last, all_lines-append, NoFeed-append}
 use Rattle.candump_log.proofs.RoutingLaws.{place_of-bad, line_of-bad}
 
@@ -31,7 +31,7 @@ none_yet None = refl
 none_yet (Some bytes) = refl
 
 pub shown_fresh : (left taken : Option (List ℕ)) (faults : ℕ) (ended : Bool) (other : OtherSide) (held : List ℕ) → held ≡ [] → ended ≡ false →
-    shown (told left taken faults ended) other held (record { taken = 0; start = 0; given = 0; long = false }) false ≡ fresh (told left taken faults ended) other
+    shown (source_state left taken faults ended) other held (record { taken = 0; start = 0; given = 0; long = false }) false ≡ fresh (source_state left taken faults ended) other
 shown_fresh left taken faults ended other held none open' =
     rw (none, open', none_yet taken) refl
 
@@ -76,7 +76,7 @@ was_open done ended more (inr e) open' = let no' : true ≡ false = sym e.0 ∙ 
 
 -- the rule at the next line, whose text says this and is the next of the texts
 pub record OneMore (names : List (List ℕ)) (o : Option (List ℕ)) (ended : Bool) (place : Place) (piece held : List ℕ) (start : ℕ) : Type 0 where
-  pub stands : IfSome o (Stands ended (next_place place start) held)
+  pub is_at : IfSome o (IsAt ended (next_place place start) held)
   pub text : List ℕ
   pub texts : option_map (texts_to start) o ≡ option_map (λ texts. texts ++ text ∷ []) (option_map (texts_to place.start) o)
   pub says : route names place.long piece ≡ route names false text
@@ -90,12 +90,12 @@ unfolding zeros
 length-zeros = length-replicate {A = ℕ} 513 0
 
 -- where the source tells nothing, bytes that were let go are any so many
-untold : Bool → List ℕ → List ℕ
-untold long piece = cond long zeros [] ++ piece
+unknown : Bool → List ℕ → List ℕ
+unknown long piece = cond long zeros [] ++ piece
 
-untold_says : (names : List (List ℕ)) (long : Bool) (piece : List ℕ) → route names long piece ≡ route names false (untold long piece)
-unfolding untold
-untold_says names long piece = route-dropped names long (cond long zeros []) piece (none_of long) (many_of long)
+unknown_says : (names : List (List ℕ)) (long : Bool) (piece : List ℕ) → route names long piece ≡ route names false (unknown long piece)
+unfolding unknown
+unknown_says names long piece = route-dropped names long (cond long zeros []) piece (none_of long) (many_of long)
   where
     none_of : (b : Bool) → b ≡ false → cond b zeros [] ≡ []
     none_of true e = absurd cc
@@ -105,9 +105,9 @@ untold_says names long piece = route-dropped names long (cond long zeros []) pie
     many_of true e = omega (arith, length-zeros)
     many_of false e = absurd cc
 
-whole_told : (names : List (List ℕ)) (ended : Bool) (place : Place) (was held bytes piece : List ℕ) → Stands ended place was bytes → NoFeed piece → was ≡ piece ++ 10 ∷ held →
+whole_known : (names : List (List ℕ)) (ended : Bool) (place : Place) (was held bytes piece : List ℕ) → IsAt ended place was bytes → NoFeed piece → was ≡ piece ++ 10 ∷ held →
     OneMore names (Some bytes) ended place piece held (place.taken - length held)
-whole_told names ended place was held bytes piece s plain e =
+whole_known names ended place was held bytes piece s plain e =
     let P : List ℕ → Type 0 = λ w. bytes ≡ s.done ++ (s.dropped ++ w) in
     let p : bytes ≡ s.done ++ (s.dropped ++ (piece ++ 10 ∷ held)) = subst P e s.parted in
     let all = s.dropped ++ piece in
@@ -118,7 +118,7 @@ whole_told names ended place was held bytes piece s plain e =
     let closed : (cut s.done).rest ≡ [] = is_closed s.done ended (s.dropped ++ was) s.closed some in
     let plain_all : NoFeed all = NoFeed-append s.dropped piece s.plain plain in
     record {
-      stands = record {
+      is_at = record {
         done = d;
         dropped = [];
         parted = q;
@@ -137,25 +137,25 @@ whole_told names ended place was held bytes piece s plain e =
       says = route-dropped names place.long s.dropped piece s.short s.over;
     }
 
-pub whole_by : (names : List (List ℕ)) (o : Option (List ℕ)) (ended : Bool) (place : Place) (was held piece : List ℕ) → IfSome o (Stands ended place was) → NoFeed piece → was ≡ piece ++ 10 ∷ held →
+pub whole_by : (names : List (List ℕ)) (o : Option (List ℕ)) (ended : Bool) (place : Place) (was held piece : List ℕ) → IfSome o (IsAt ended place was) → NoFeed piece → was ≡ piece ++ 10 ∷ held →
     OneMore names o ended place piece held (place.taken - length held)
 whole_by names None ended place was held piece s plain e =
-    record { stands = tt; text = untold place.long piece; texts = refl; says = untold_says names place.long piece }
-whole_by names (Some bytes) ended place was held piece s plain e = whole_told names ended place was held bytes piece s plain e
+    record { is_at = tt; text = unknown place.long piece; texts = refl; says = unknown_says names place.long piece }
+whole_by names (Some bytes) ended place was held piece s plain e = whole_known names ended place was held bytes piece s plain e
 
 some_left : (long : Bool) (dropped was : List ℕ) → (long ≡ true → line_limit < length dropped) → (0 < length was) ⊎ (long ≡ true) → 0 < length (dropped ++ was)
 some_left long dropped was over (inl h) = omega (arith, length-append dropped was)
 some_left long dropped was over (inr h) = let m = over h in omega (arith, length-append dropped was)
 
-last_told : (names : List (List ℕ)) (ended : Bool) (place : Place) (was bytes : List ℕ) → ended ≡ true → Stands ended place was bytes → NoFeed was → (0 < length was) ⊎ (place.long ≡ true) →
+last_known : (names : List (List ℕ)) (ended : Bool) (place : Place) (was bytes : List ℕ) → ended ≡ true → IsAt ended place was bytes → NoFeed was → (0 < length was) ⊎ (place.long ≡ true) →
     OneMore names (Some bytes) ended place was [] place.taken
-last_told names ended place was bytes end s plain some =
+last_known names ended place was bytes end s plain some =
     let all = s.dropped ++ was in
     let more : 0 < length all = some_left place.long s.dropped was s.over some in
     let closed : (cut s.done).rest ≡ [] = is_closed s.done ended all s.closed more in
     let plain_all : NoFeed all = NoFeed-append s.dropped was s.plain plain in
     record {
-      stands = record {
+      is_at = record {
         done = bytes;
         dropped = [];
         parted = sym (append-nil bytes);
@@ -175,15 +175,15 @@ last_told names ended place was bytes end s plain some =
       says = route-dropped names place.long s.dropped was s.short s.over;
     }
 
-pub last_by : (names : List (List ℕ)) (o : Option (List ℕ)) (ended : Bool) (place : Place) (was : List ℕ) → ended ≡ true → IfSome o (Stands ended place was) → NoFeed was → (0 < length was) ⊎ (place.long ≡ true) →
+pub last_by : (names : List (List ℕ)) (o : Option (List ℕ)) (ended : Bool) (place : Place) (was : List ℕ) → ended ≡ true → IfSome o (IsAt ended place was) → NoFeed was → (0 < length was) ⊎ (place.long ≡ true) →
     OneMore names o ended place was [] place.taken
-last_by names None ended place was end s plain some = record { stands = tt; text = untold place.long was; texts = refl; says = untold_says names place.long was }
-last_by names (Some bytes) ended place was end s plain some = last_told names ended place was bytes end s plain some
+last_by names None ended place was end s plain some = record { is_at = tt; text = unknown place.long was; texts = refl; says = unknown_says names place.long was }
+last_by names (Some bytes) ended place was end s plain some = last_known names ended place was bytes end s plain some
 
 -- ---- the lines given are the first of the log's
 
-front_told : (ended : Bool) (place : Place) (held bytes left : List ℕ) → Stands ended place held bytes → (ended ≡ true → left ≡ []) → (rest : List (List ℕ)) × (all_lines (bytes ++ left) ≡ texts_to place.start bytes ++ rest)
-front_told ended place held bytes left s end = by_closed s.closed
+prefix_known : (ended : Bool) (place : Place) (held bytes left : List ℕ) → IsAt ended place held bytes → (ended ≡ true → left ≡ []) → (rest : List (List ℕ)) × (all_lines (bytes ++ left) ≡ texts_to place.start bytes ++ rest)
+prefix_known ended place held bytes left s end = by_closed s.closed
   where
     by_closed : ((cut s.done).rest ≡ []) ⊎ ((ended ≡ true) × (s.dropped ++ held ≡ [])) → (rest : List (List ℕ)) × (all_lines (bytes ++ left) ≡ texts_to place.start bytes ++ rest)
     by_closed (inl c) =
@@ -199,21 +199,21 @@ front_told ended place held bytes left s end = by_closed s.closed
               ∙ sym (texts_at s.done (s.dropped ++ held) bytes place.start s.parted s.start) ∙ sym (append-nil (texts_to place.start bytes)),
         )
 
-front_by : (o left : Option (List ℕ)) (ended : Bool) (place : Place) (held : List ℕ) → IfSome o (Stands ended place held) → (ended ≡ true → IfSome left (λ l. l ≡ [])) →
-    IsFront (option_map (texts_to place.start) o) (joined o left)
-front_by None left ended place held s end = tt
-front_by (Some bytes) None ended place held s end = tt
-front_by (Some bytes) (Some left) ended place held s end = front_told ended place held bytes left s end
+prefix_by : (o left : Option (List ℕ)) (ended : Bool) (place : Place) (held : List ℕ) → IfSome o (IsAt ended place held) → (ended ≡ true → IfSome left (λ l. l ≡ [])) →
+    IsPrefix (option_map (texts_to place.start) o) (joined o left)
+prefix_by None left ended place held s end = tt
+prefix_by (Some bytes) None ended place held s end = tt
+prefix_by (Some bytes) (Some left) ended place held s end = prefix_known ended place held bytes left s end
 
 -- of a reader that keeps the rule, also between two calls
-pub shown_front : (src : SourceState) (other : OtherSide) (held : List ℕ) (place : Place) (failed : Bool) (s : LinesState) → shown src other held place failed ≡ s → Keeps src held place → IsFront s.texts (log_of s)
-shown_front src other held place failed s is k =
-    let P : LinesState → Type 0 = λ s. IsFront s.texts (log_of s) in
-    subst P is (front_by (log_by place.taken src.taken) src.left src.ended place held k.stands k.end)
+pub shown_prefix : (src : SourceState) (other : OtherSide) (held : List ℕ) (place : Place) (failed : Bool) (s : LinesState) → shown src other held place failed ≡ s → Keeps src held place → IsPrefix s.texts (log_of s)
+shown_prefix src other held place failed s is k =
+    let P : LinesState → Type 0 = λ s. IsPrefix s.texts (log_of s) in
+    subst P is (prefix_by (log_by place.taken src.taken) src.left src.ended place held k.is_at k.end)
 
 -- the bytes taken are as many as are counted
 
-counted_by : (o : Option (List ℕ)) (ended : Bool) (place : Place) (held : List ℕ) → IfSome o (Stands ended place held) → IfSome o (λ bytes. length bytes ≡ place.taken)
+counted_by : (o : Option (List ℕ)) (ended : Bool) (place : Place) (held : List ℕ) → IfSome o (IsAt ended place held) → IfSome o (λ bytes. length bytes ≡ place.taken)
 counted_by None ended place held s = tt
 counted_by (Some bytes) ended place held s = s.count
 
@@ -240,11 +240,11 @@ advances start src other held place failed w unasked k =
       still = λ nothing. (unasked nothing).1;
       given = omega (arith, k.numbers.given, k.numbers.behind);
       limit = k.numbers.limit;
-      counted = counted_by (log_by place.taken src.taken) src.ended place held k.stands;
-      front = front_by (log_by place.taken src.taken) src.left src.ended place held k.stands k.end;
+      counted = counted_by (log_by place.taken src.taken) src.ended place held k.is_at;
+      prefix = prefix_by (log_by place.taken src.taken) src.left src.ended place held k.is_at k.end;
     }
 
--- nothing was asked yet, or the source was asked since no line stood ready
+-- nothing was asked yet, or the source was asked since no line was ready
 abbrev pub Asked : LinesState → SourceState → List ℕ → Place → Type 0
 Asked start src held place =
     ((src ≡ start.source) × (place.taken ≡ start.taken) × (is_ready src.ended held place.long ≡ start.ready))

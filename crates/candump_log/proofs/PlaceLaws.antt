@@ -12,7 +12,7 @@ use Rattle.std.proofs.lemmas.Option.{none-some, slice_get-get_or, slice_get_with
 use Rattle.std.proofs.lemmas.Slice.Eq.{bytes_eq-Decides}
 use Rattle.candump_log.specs.declared.log_line.LogLine.TheVariants as line
 use Rattle.candump_log.specs.declared.log_line.Span.{Span}
-use Rattle.candump_log.specs.Line.{front_text, behind_text, IsLine, IsInterface}
+use Rattle.candump_log.specs.Line.{prefix_text, behind_text, IsLine, IsInterface}
 use Rattle.candump_log.specs.LineOf.{interface_of}
 use Rattle.candump_log.specs.Routing.{name_place, place_of, HasInterface, IsFirstName, IsNoName}
 use Rattle.candump_log.proofs.LineLaws.{span_of, InterfaceAt, interface_of-is, interface_of-one, no_interface_exactly}
@@ -40,9 +40,9 @@ first_is : (names : List (List ℕ)) (word : List ℕ) (i : ℕ) → name_place 
 first_is names word i e =
     let at = position-Some (λ (name : List ℕ). bytes_eq name word) names i [] e in (
       name_at names word i at.0 (same_name (get_or names i []) word at.1),
-      λ k low stands.
+      λ k low is_at.
           let no = at.2 k low in
-          let yes : bytes_eq (get_or names k []) word ≡ true = (bytes_eq-Decides (get_or names k []) word).1 (get_or_from_slice_get names k word [] stands) in
+          let yes : bytes_eq (get_or names k []) word ≡ true = (bytes_eq-Decides (get_or names k []) word).1 (get_or_from_slice_get names k word [] is_at) in
           cc,
     )
 
@@ -57,11 +57,11 @@ none_found names word none = sym (none_here names word (λ k lt. not_at names wo
 
 -- where a name equals the word, one is the first
 none_is : (names : List (List ℕ)) (word : List ℕ) → name_place names word ≡ None → IsNoName names word
-none_is names word e k stands =
+none_is names word e k is_at =
     let test : List ℕ → Bool = λ (name : List ℕ). bytes_eq name word in
     let at = position_or_len test names in
-    let lt = slice_get_within names k word stands in
-    let yes : bytes_eq (get_or names k []) word ≡ true = (bytes_eq-Decides (get_or names k []) word).1 (get_or_from_slice_get names k word [] stands) in
+    let lt = slice_get_within names k word is_at in
+    let yes : bytes_eq (get_or names k []) word ≡ true = (bytes_eq-Decides (get_or names k []) word).1 (get_or_from_slice_get names k word [] is_at) in
     elim (cases_Bool (ltb at (length names))) [
       | inl first ↦ let no : Some at ≡ None = rw first at e in absurd (none-some at (sym no))
       | inr none ↦
@@ -72,24 +72,24 @@ none_is names word e k stands =
 
 -- ---- the interface
 
--- the interface's word stands where the interface is
-word_at : (front word behind text : List ℕ) (at end : ℕ) → text ≡ front ++ (word ++ behind) → at ≡ length front → end ≡ at + length word → slice_range text at end ≡ word
-word_at front word behind text at end e a n =
-    let behind_front : drop at text ≡ word ++ behind = ap (drop at) e ∙ drop_at front (word ++ behind) at (sym a) in
+-- the interface's word is where the interface is
+word_at : (prefix word behind text : List ℕ) (at end : ℕ) → text ≡ prefix ++ (word ++ behind) → at ≡ length prefix → end ≡ at + length word → slice_range text at end ≡ word
+word_at prefix word behind text at end e a n =
+    let behind_prefix : drop at text ≡ word ++ behind = ap (drop at) e ∙ drop_at prefix (word ++ behind) at (sym a) in
     let long : end - at ≡ length word = omega (arith, n) in
-    ap (take (end - at)) behind_front ∙ ap (λ (k : ℕ). take k (word ++ behind)) long ∙ take-append_seam word behind
+    ap (take (end - at)) behind_prefix ∙ ap (λ (k : ℕ). take k (word ++ behind)) long ∙ take-append_seam word behind
 
 word_of : (text : List ℕ) (span : Span) → IsInterface text span → HasInterface text (slice_range text span.at span.end)
 word_of text span is =
-    (is.pieces, is.line, is.spells, sym (word_at (front_text is.pieces) is.pieces.interface (behind_text is.pieces) text span.at span.end is.spells.parted is.at is.end))
+    (is.pieces, is.line, is.encodes, sym (word_at (prefix_text is.pieces) is.pieces.interface (behind_text is.pieces) text span.at span.end is.encodes.parted is.at is.end))
 
 has_place : (names : List (List ℕ)) (text word : List ℕ) → HasInterface text word → place_of names text ≡ name_place names word
 unfolding place_of
 has_place names text word has =
     let p = has.0 in
     let span = span_of p in
-    let found = interface_of-one text span (record { pieces = p; line = has.1; spells = has.2; at = refl; end = refl }) in
-    let same = word_at (front_text p) p.interface (behind_text p) text span.at span.end has.2.parted refl refl ∙ has.3 in
+    let found = interface_of-one text span (record { pieces = p; line = has.1; encodes = has.2; at = refl; end = refl }) in
+    let same = word_at (prefix_text p) p.interface (behind_text p) text span.at span.end has.2.parted refl refl ∙ has.3 in
     rw found (ap (name_place names) same)
 
 bad_place : (names : List (List ℕ)) (text : List ℕ) → IsLine text line.Bad → place_of names text ≡ None

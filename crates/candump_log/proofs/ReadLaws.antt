@@ -11,7 +11,7 @@ use Rattle.candump_log.specs.declared.place.LinesRefused.{LinesRefused}
 use Rattle.candump_log.specs.LineOf.{line_of}
 use Rattle.candump_log.specs.LogLines.{whole_lines}
 use Rattle.candump_log.specs.LinesState.{LinesState, log_limit, last_bytes, log_by, log_taken, joined, log_of, fresh}
-use Rattle.candump_log.specs.NextLine.{NextLine, Took, IsFront, Advances, GivesNone, HasEnded, HasStopped}
+use Rattle.candump_log.specs.NextLine.{NextLine, Took, IsPrefix, Advances, GivesNone, HasEnded, HasStopped}
 use Rattle.candump_log.specs.Reads.{TakesBytes, Reads}
 
 append_known-append : (o : Option (List ℕ)) (xs ys : List ℕ) → append_known (append_known o xs) ys ≡ append_known o (xs ++ ys)
@@ -30,7 +30,7 @@ prepend_known-append : (o : Option (List ℕ)) (xs ys : List ℕ) → prepend_kn
 prepend_known-append None xs ys = refl
 prepend_known-append (Some bytes) xs ys = ap (λ (l : List ℕ). Some l) (sym (append_assoc xs ys bytes))
 
-no_texts : (taken log : Option (List ℕ)) → IsFront (option_map (λ _. []) taken) log
+no_texts : (taken log : Option (List ℕ)) → IsPrefix (option_map (λ _. []) taken) log
 no_texts None log = tt
 no_texts (Some bytes) None = tt
 no_texts (Some bytes) (Some log) = (all_lines log, refl)
@@ -47,7 +47,7 @@ reads_nothing l e log = record {
   texts = fresh_texts l e;
   log = log;
   start = log;
-  front = let F : Option (List (List ℕ)) → Type 0 = λ t. IsFront t (log_of l) in subst F (sym (fresh_texts l e)) (no_texts l.source.taken (log_of l));
+  prefix = let F : Option (List (List ℕ)) → Type 0 = λ t. IsPrefix t (log_of l) in subst F (sym (fresh_texts l e)) (no_texts l.source.taken (log_of l));
   given = omega (arith, ap (λ (s : LinesState). s.given) e);
   other = refl;
 }
@@ -76,7 +76,7 @@ advances l m l' was read r a texts =
       texts = texts;
       log = a.log ∙ r.log;
       start = r.start;
-      front = a.front;
+      prefix = a.prefix;
       given = omega (arith, a.given, a.limit);
       other = a.other ∙ r.other;
     }
@@ -105,18 +105,18 @@ some_taken : (taken left : Option (List ℕ)) (n : ℕ) (bytes : List ℕ) → j
 some_taken taken left n bytes j e = none-some _ (sym (ap (λ (o : Option (List ℕ)). joined (log_by n o) left) e) ∙ j)
 
 -- the lines that were read are the first of the log's lines
-unread_behind : (taken log left : Option (List ℕ)) (texts : Option (List (List ℕ))) (n : ℕ) (read : List (List ℕ)) → texts ≡ option_map (λ _. read) taken → log ≡ left → joined (log_by n taken) left ≡ left → IsFront texts log →
+unread_behind : (taken log left : Option (List ℕ)) (texts : Option (List (List ℕ))) (n : ℕ) (read : List (List ℕ)) → texts ≡ option_map (λ _. read) taken → log ≡ left → joined (log_by n taken) left ≡ left → IsPrefix texts log →
     (unread : List (List ℕ)) × IfSome left (λ bytes. read ++ unread ≡ all_lines bytes)
-unread_behind taken log None texts n read t e j front = ([], tt)
-unread_behind None log (Some bytes) texts n read t e j front = absurd (none-some _ j)
-unread_behind (Some took) log (Some bytes) texts n read t e j front =
-    let F : Option (List (List ℕ)) → Type 0 = λ o. IsFront o log in
-    let G : Option (List ℕ) → Type 0 = λ o. IsFront (Some read) o in
-    let f = subst G e (subst F t front) in
+unread_behind taken log None texts n read t e j prefix = ([], tt)
+unread_behind None log (Some bytes) texts n read t e j prefix = absurd (none-some _ j)
+unread_behind (Some took) log (Some bytes) texts n read t e j prefix =
+    let F : Option (List (List ℕ)) → Type 0 = λ o. IsPrefix o log in
+    let G : Option (List ℕ) → Type 0 = λ o. IsPrefix (Some read) o in
+    let f = subst G e (subst F t prefix) in
     (f.0, sym f.1)
 
 pub unread : (l l' : LinesState) (read : List (List ℕ)) → Reads l l' read → (unread : List (List ℕ)) × IfSome l.source.left (λ bytes. read ++ unread ≡ all_lines bytes)
-unread l l' read r = unread_behind l.source.taken (log_of l') l.source.left l'.texts l.taken read r.texts r.log r.start r.front
+unread l l' read r = unread_behind l.source.taken (log_of l') l.source.left l'.texts l.taken read r.texts r.log r.start r.prefix
 
 -- at the end of the log all its lines were read
 joined_to_end : (taken left : Option (List ℕ)) (bytes : List ℕ) → IfSome left (λ left. left ≡ []) → joined taken left ≡ Some bytes → taken ≡ Some bytes

@@ -15,10 +15,10 @@ use Rattle.byte_forms.proofs.DigitLaws.{number_of-below}
 use Rattle.byte_forms.specs.Pieces.{after_literal}
 use Rattle.byte_forms.proofs.PieceLaws.{bind_some, after_literal_takes, after_literal-append}
 use Rattle.candump_log.specs.Line.{AreDigits}
-use Rattle.candump_log.specs.LineOf.{digits_front, number_before, stamp_front}
+use Rattle.candump_log.specs.LineOf.{digits_prefix, number_before, stamp_prefix}
 use Rattle.candump_log.proofs.BlankLaws.{StopsAt, prefix_len-before}
 
--- this many digits stand at the front at least
+-- this many digits are at the front at least
 abbrev pub DigitsTo : List ℕ → ℕ → Type 0
 DigitsTo bytes i = (k : ℕ) → k < i → is_ascii_digit (get_or bytes k 0) ≡ true
 
@@ -54,15 +54,15 @@ value_more bytes i value lt digit is =
 
 -- the digits end here
 pub digits_end : (most : ℕ) (bytes : List ℕ) (i value : ℕ) → i ≤ length bytes → i ≤ most → DigitsTo bytes i → (i < length bytes → is_ascii_digit (get_or bytes i 0) ≡ false)
-    → value ≡ number_of radixes.Decimal (take i bytes) → Some (i, value) ≡ digits_front most bytes
-unfolding digits_front
+    → value ≡ number_of radixes.Decimal (take i bytes) → Some (i, value) ≡ digits_prefix most bytes
+unfolding digits_prefix
 digits_end most bytes i value within few digits stop is =
     let n : prefix_len is_ascii_digit bytes ≡ i = prefix_len_is is_ascii_digit bytes i 0 within digits stop in
     rw (n, le-leb i most few, is) refl
 
 -- there are more than that
-pub digits_too_many : (most : ℕ) (bytes : List ℕ) → most < length bytes → DigitsTo bytes most → is_ascii_digit (get_or bytes most 0) ≡ true → None ≡ digits_front most bytes
-unfolding digits_front
+pub digits_too_many : (most : ℕ) (bytes : List ℕ) → most < length bytes → DigitsTo bytes most → is_ascii_digit (get_or bytes most 0) ≡ true → None ≡ digits_prefix most bytes
+unfolding digits_prefix
 digits_too_many most bytes within digits last =
     elim (cases_Bool (leb (prefix_len is_ascii_digit bytes) most)) [
       | inl holds ↦
@@ -98,10 +98,10 @@ number_of_cond : (b : Bool) (x y : ℕ × List ℕ) → cond b (Some x) None ≡
 number_of_cond true x y e = (refl, cc)
 number_of_cond false x y e = absurd cc
 
-digits_front_takes : (most : ℕ) (bytes : List ℕ) (d : ℕ × ℕ) → digits_front most bytes ≡ Some d →
+digits_prefix_takes : (most : ℕ) (bytes : List ℕ) (d : ℕ × ℕ) → digits_prefix most bytes ≡ Some d →
     (d.0 ≤ most) × (d.0 ≡ prefix_len is_ascii_digit bytes) × (d.1 ≡ number_of radixes.Decimal (take (prefix_len is_ascii_digit bytes) bytes))
-unfolding digits_front
-digits_front_takes most bytes d e =
+unfolding digits_prefix
+digits_prefix_takes most bytes d e =
     let n = prefix_len is_ascii_digit bytes in
     let test = pair_of (leb n most) (n, number_of radixes.Decimal (take n bytes)) d e in
     let count : n ≡ d.0 = ap (λ (x : ℕ × ℕ). x.0) test.1 in
@@ -111,8 +111,8 @@ number_before_takes : (least most : ℕ) (literal bytes rest : List ℕ) (n : �
     (digits : List ℕ) × IsDigits least most digits n × (bytes ≡ digits ++ (literal ++ rest))
 unfolding number_before
 number_before_takes least most literal bytes rest n e =
-    let d = bind_some (digits_front most bytes) _ _ e in
-    let front = digits_front_takes most bytes d.0 d.1 in
+    let d = bind_some (digits_prefix most bytes) _ _ e in
+    let prefix = digits_prefix_takes most bytes d.0 d.1 in
     let l = bind_some (after_literal literal (drop d.0.0 bytes)) _ _ d.2 in
     let test = number_of_cond (leb least d.0.0) (d.0.1, l.0) (n, rest) l.2 in
     let k = prefix_len is_ascii_digit bytes in
@@ -122,28 +122,28 @@ number_before_takes least most literal bytes rest n e =
     let behind : l.0 ≡ rest = ap (λ (x : ℕ × List ℕ). x.1) test.1 in
     let low : least ≤ d.0.0 = leb-true least d.0.0 test.0 in
     let whole : take k bytes ++ drop k bytes ≡ bytes = take-append-drop k bytes in
-    let after : drop k bytes ≡ literal ++ rest = ap (λ (m : ℕ). drop m bytes) (sym front.1) ∙ after_literal_takes literal (drop d.0.0 bytes) l.0 l.1 ∙ ap (λ (r : List ℕ). literal ++ r) behind in (
+    let after : drop k bytes ≡ literal ++ rest = ap (λ (m : ℕ). drop m bytes) (sym prefix.1) ∙ after_literal_takes literal (drop d.0.0 bytes) l.0 l.1 ∙ ap (λ (r : List ℕ). literal ++ r) behind in (
       take k bytes,
       record {
         all = list_all-take_while is_ascii_digit bytes;
-        least_is = omega (arith, low, front.1, count);
-        most_is = omega (arith, front.0, front.1, count);
-        value = sym value ∙ front.2;
+        least_is = omega (arith, low, prefix.1, count);
+        most_is = omega (arith, prefix.0, prefix.1, count);
+        value = sym value ∙ prefix.2;
       },
       sym whole ∙ ap (λ (r : List ℕ). take k bytes ++ r) after,
     )
 
 number_before-append : (least most : ℕ) (literal digits rest : List ℕ) (n : ℕ) → IsDigits least most digits n → StopsAt is_ascii_digit (literal ++ rest) →
     number_before least most literal (digits ++ (literal ++ rest)) ≡ Some (n, rest)
-unfolding number_before digits_front
+unfolding number_before digits_prefix
 number_before-append least most literal digits rest n is stop =
     let k : prefix_len is_ascii_digit (digits ++ (literal ++ rest)) ≡ length digits = prefix_len-before is_ascii_digit digits (literal ++ rest) is.all stop in
     let few : leb (length digits) most ≡ true = le-leb (length digits) most is.most_is in
     let low : leb least (length digits) ≡ true = le-leb least (length digits) is.least_is in
-    let front : take (length digits) (digits ++ (literal ++ rest)) ≡ digits = take_at digits (literal ++ rest) (length digits) refl in
+    let prefix : take (length digits) (digits ++ (literal ++ rest)) ≡ digits = take_at digits (literal ++ rest) (length digits) refl in
     let behind : drop (length digits) (digits ++ (literal ++ rest)) ≡ literal ++ rest = drop_at digits (literal ++ rest) (length digits) refl in
     let after : after_literal literal (literal ++ rest) ≡ Some rest = after_literal-append literal rest in
-    rw (k, few, front, behind, after, low) (ap (λ (m : ℕ). Some (m, rest)) (sym is.value))
+    rw (k, few, prefix, behind, after, low) (ap (λ (m : ℕ). Some (m, rest)) (sym is.value))
 
 are_digits : (least most : ℕ) (digits : List ℕ) (n : ℕ) → 1 ≤ least → IsDigits least most digits n → AreDigits least most digits
 are_digits least most digits n some is = (numeral_of digits (omega (arith, is.least_is)) is.all, is.least_is, is.most_is)
@@ -162,9 +162,9 @@ pub record IsStamp (bytes seconds micros : List ℕ) (n : ℕ) (rest : List ℕ)
   pub micros_are : AreDigits 6 6 micros
   pub value : n ≡ number_of radixes.Decimal seconds * 1000000 + number_of radixes.Decimal micros
 
-pub stamp_front_takes : (bytes rest : List ℕ) (n : ℕ) → stamp_front bytes ≡ Some (n, rest) → (seconds : List ℕ) × (micros : List ℕ) × IsStamp bytes seconds micros n rest
-unfolding stamp_front
-stamp_front_takes bytes rest n e =
+pub stamp_prefix_takes : (bytes rest : List ℕ) (n : ℕ) → stamp_prefix bytes ≡ Some (n, rest) → (seconds : List ℕ) × (micros : List ℕ) × IsStamp bytes seconds micros n rest
+unfolding stamp_prefix
+stamp_prefix_takes bytes rest n e =
     let o = bind_some (after_literal (codes "(") bytes) _ _ e in
     let s = bind_some (number_before 1 12 (codes ".") o.0) _ _ o.2 in
     let m = bind_some (number_before 6 6 (codes ")") s.0.1) _ _ s.2 in
@@ -193,10 +193,10 @@ stamp_front_takes bytes rest n e =
     same_stamp : (s m a b : ℕ) → s ≡ a → m ≡ b → s * 1000000 + m ≡ a * 1000000 + b
     same_stamp s m a b e f = omega arith
 
-pub stamp_front-text : (seconds micros rest : List ℕ) → AreDigits 1 12 seconds → AreDigits 6 6 micros →
-    stamp_front (stamp_text seconds micros rest) ≡ Some (number_of radixes.Decimal seconds * 1000000 + number_of radixes.Decimal micros, rest)
-unfolding stamp_front
-stamp_front-text seconds micros rest s m =
+pub stamp_prefix-text : (seconds micros rest : List ℕ) → AreDigits 1 12 seconds → AreDigits 6 6 micros →
+    stamp_prefix (stamp_text seconds micros rest) ≡ Some (number_of radixes.Decimal seconds * 1000000 + number_of radixes.Decimal micros, rest)
+unfolding stamp_prefix
+stamp_prefix-text seconds micros rest s m =
     rw (
       after_literal-append (codes "(") (seconds ++ (codes "." ++ (micros ++ (codes ")" ++ rest)))),
       number_before-append 1 12 (codes ".") seconds (micros ++ (codes ")" ++ rest)) _ (is_digits 1 12 seconds s) refl,

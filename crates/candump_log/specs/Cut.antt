@@ -6,7 +6,7 @@ pub record Cut : Type 0 where
   pub whole : List (List ℕ)
   pub rest : List ℕ
 
--- a byte before cut bytes: it stands in the first part, or in the rest where there is none
+-- a byte before cut bytes: it is in the first part, or in the rest where there is none
 abbrev pub onto : ℕ → List (List ℕ) → List ℕ → Cut
 onto b [] rest = record { whole = []; rest = b ∷ rest }
 onto b (line ∷ lines) rest = record { whole = (b ∷ line) ∷ lines; rest = rest }

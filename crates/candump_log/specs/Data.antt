@@ -19,17 +19,17 @@ pub record LeadsByte (mark text : List ℕ) (b : ℕ) (rest : List ℕ) : Type 0
   pub low_is : is_ascii_hexdigit low ≡ true
   pub value : b ≡ 16 * digit_value high + digit_value low
 
--- what may stand between two bytes
+-- what may be between two bytes
 abbrev pub IsMark : List ℕ → Type 0
 IsMark mark = (mark ≡ []) ⊎ (mark ≡ codes ".")
 
 -- the text behind a byte is that of these further bytes
-abbrev pub SpellsMore : List ℕ → List ℕ → Type 0
-SpellsMore text [] = text ≡ []
-SpellsMore text (b ∷ bytes) =
-    (mark : List ℕ) × (rest : List ℕ) × IsMark mark × LeadsByte mark text b rest × SpellsMore rest bytes
+abbrev pub EncodesMore : List ℕ → List ℕ → Type 0
+EncodesMore text [] = text ≡ []
+EncodesMore text (b ∷ bytes) =
+    (mark : List ℕ) × (rest : List ℕ) × IsMark mark × LeadsByte mark text b rest × EncodesMore rest bytes
 
 -- the text is that of these bytes
-abbrev pub SpellsData : List ℕ → List ℕ → Type 0
-SpellsData text [] = text ≡ []
-SpellsData text (b ∷ bytes) = (rest : List ℕ) × LeadsByte [] text b rest × SpellsMore rest bytes
+abbrev pub EncodesData : List ℕ → List ℕ → Type 0
+EncodesData text [] = text ≡ []
+EncodesData text (b ∷ bytes) = (rest : List ℕ) × LeadsByte [] text b rest × EncodesMore rest bytes

@@ -11,7 +11,7 @@ use Rattle.bench_model.specs.declared.database.Key.{Key}
 use Rattle.candump_log.specs.declared.log_line.LogLine.{LogLine}
 use Rattle.candump_log.specs.declared.log_line.LogLine.TheVariants as line
 use Rattle.candump_log.specs.declared.log_line.Span.{Span}
-use Rattle.candump_log.specs.Data.{classic_limit, data_limit, SpellsData}
+use Rattle.candump_log.specs.Data.{classic_limit, data_limit, EncodesData}
 
 -- the most bytes of a line, its blanks at the end counted and its line feed not
 abbrev pub line_limit : ℕ
@@ -55,9 +55,9 @@ pub record LinePieces : Type 0 where
   pub body : List ℕ
   pub tail : List ℕ
 
--- what stands before the interface, and what behind it
-abbrev pub front_text : LinePieces → List ℕ
-front_text p = codes "(" ++ (p.seconds ++ (codes "." ++ (p.micros ++ (codes ")" ++ p.gap))))
+-- what is before the interface, and what behind it
+abbrev pub prefix_text : LinePieces → List ℕ
+prefix_text p = codes "(" ++ (p.seconds ++ (codes "." ++ (p.micros ++ (codes ")" ++ p.gap))))
 
 abbrev pub behind_text : LinePieces → List ℕ
 behind_text p = p.space ++ (p.id ++ (codes "#" ++ (p.body ++ p.tail)))
@@ -82,7 +82,7 @@ pub record IsClassic (body bytes : List ℕ) : Type 0 where
   pub digits : List ℕ
   pub code : List ℕ
   pub text : body ≡ digits ++ code
-  pub bytes_are : SpellsData digits bytes
+  pub bytes_are : EncodesData digits bytes
   pub few : length bytes ≤ classic_limit
   pub code_is : IsLengthCode code
 
@@ -92,7 +92,7 @@ pub record IsFd (body bytes : List ℕ) : Type 0 where
   pub digits : List ℕ
   pub text : body ≡ codes "#" ++ flags ∷ digits
   pub flags_are : is_ascii_hexdigit flags ≡ true
-  pub bytes_are : SpellsData digits bytes
+  pub bytes_are : EncodesData digits bytes
   pub few : length bytes ≤ data_limit
 
 -- a digit 0 to 8, or none
@@ -109,7 +109,7 @@ pub record IsRemote (body : List ℕ) : Type 0 where
   pub length_is : IsLength length_digit
   pub code_is : IsLengthCode code
 
--- what stands behind the first `#`: the bytes of a data frame, or a remote frame, which has none
+-- what is behind the first `#`: the bytes of a data frame, or a remote frame, which has none
 abbrev pub IsBody : List ℕ → Option (List ℕ) → Type 0
 IsBody body (Some bytes) = IsClassic body bytes ⊎ IsFd body bytes
 IsBody body None = IsRemote body
@@ -124,8 +124,8 @@ line_from micros key content =
     if nat_le (2 ^ 29) key.id then line.Error micros key.id else frame_line micros key content
 
 -- the text is a frame, remote or error line of these pieces
-pub record Spells (text : List ℕ) (p : LinePieces) (line : LogLine) : Type 0 where
-  pub parted : text ≡ front_text p ++ (p.interface ++ behind_text p)
+pub record Encodes (text : List ℕ) (p : LinePieces) (line : LogLine) : Type 0 where
+  pub parted : text ≡ prefix_text p ++ (p.interface ++ behind_text p)
   pub short : length text ≤ line_limit
   pub seconds : AreDigits 1 12 p.seconds
   pub micros : AreDigits 6 6 p.micros
@@ -141,15 +141,15 @@ pub record Spells (text : List ℕ) (p : LinePieces) (line : LogLine) : Type 0 w
 
 -- what a text says as a line of a log: a bad line is of no other form
 abbrev pub IsLine : List ℕ → LogLine → Type 0
-IsLine text line.Bad = (p : LinePieces) (l : LogLine) → Spells text p l → ⊥
-IsLine text l = (p : LinePieces) × Spells text p l
+IsLine text line.Bad = (p : LinePieces) (l : LogLine) → Encodes text p l → ⊥
+IsLine text l = (p : LinePieces) × Encodes text p l
 
--- where the interface stands in a text that is no bad line
+-- where the interface is in a text that is no bad line
 pub record IsInterface (text : List ℕ) (span : Span) : Type 0 where
   pub pieces : LinePieces
   pub line : LogLine
-  pub spells : Spells text pieces line
-  pub at : span.at ≡ length (front_text pieces)
+  pub encodes : Encodes text pieces line
+  pub at : span.at ≡ length (prefix_text pieces)
   pub end : span.end ≡ span.at + length pieces.interface
 
 -- what each line keeps: 11 bits or 29, an error frame's identifier with bit 29, and the bytes that a frame has room for

@@ -17,8 +17,8 @@ use Rattle.candump_log.specs.Data.{classic_limit, data_limit}
 use Rattle.candump_log.specs.Line.{line_limit, standard_limit, extended_limit, is_blank, line_from}
 
 -- the decimal digits at the front, where they are not more than `most`: how many, and their number
-unfoldable pub digits_front : ℕ → List ℕ → Option (ℕ × ℕ)
-digits_front most bytes =
+unfoldable pub digits_prefix : ℕ → List ℕ → Option (ℕ × ℕ)
+digits_prefix most bytes =
     if nat_le (prefix_len is_ascii_digit bytes) most
     then Some (prefix_len is_ascii_digit bytes, number_of radixes.Decimal (take (prefix_len is_ascii_digit bytes) bytes))
     else None
@@ -26,13 +26,13 @@ digits_front most bytes =
 -- the number of the digits before a literal
 unfoldable pub number_before : ℕ → ℕ → List ℕ → List ℕ → Option (ℕ × List ℕ)
 number_before least most literal bytes = do
-  digits ← digits_front most bytes
+  digits ← digits_prefix most bytes
   rest ← after_literal literal (drop digits.0 bytes)
   (if nat_le least digits.0 then Some (digits.1, rest) else None)
 
 -- the stamp
-unfoldable pub stamp_front : List ℕ → Option (ℕ × List ℕ)
-stamp_front bytes = do
+unfoldable pub stamp_prefix : List ℕ → Option (ℕ × List ℕ)
+stamp_prefix bytes = do
   opened ← after_literal (codes "(") bytes
   seconds ← number_before 1 12 (codes ".") opened
   micros ← number_before 6 6 (codes ")") seconds.1
@@ -46,7 +46,7 @@ unfoldable pub after_word : List ℕ → Option (List ℕ)
 after_word bytes =
     if nat_le 1 (prefix_len (is_in classes.NonBlank) bytes) then Some (drop (prefix_len (is_in classes.NonBlank) bytes) bytes) else None
 
--- whether nothing stands here, or a blank first
+-- whether nothing is here, or a blank first
 abbrev pub is_tail : List ℕ → Bool
 is_tail [] = true
 is_tail (b ∷ bs) = is_blank b
@@ -61,31 +61,31 @@ key_of digits =
     else None)
 
 -- the identifier before the `#`
-unfoldable pub key_front : List ℕ → Option (Key × List ℕ)
-key_front bytes = do
+unfoldable pub key_prefix : List ℕ → Option (Key × List ℕ)
+key_prefix bytes = do
   field ← field_before classes.HexadecimalDigit (codes "#") bytes
   key ← key_of field.0
   Some (key, field.1)
 
--- the text after a dot, where one stands here
-abbrev pub undotted : List ℕ → List ℕ
-undotted [] = []
-undotted (b ∷ bs) = if b == 46 then bs else b ∷ bs
+-- the text after a dot, where one is here
+abbrev pub after_dot : List ℕ → List ℕ
+after_dot [] = []
+after_dot (b ∷ bs) = if b == 46 then bs else b ∷ bs
 
--- the byte at the front, before which a dot may stand where it is not the first
+-- the byte at the front, before which a dot may be where it is not the first
 unfoldable pub next_byte : Bool → List ℕ → Option (ℕ × List ℕ)
-next_byte first bytes = hexadecimal_byte (if first then bytes else undotted bytes)
+next_byte first bytes = hexadecimal_byte (if first then bytes else after_dot bytes)
 
 -- the bytes at the front, `limit` of them at most
 abbrev pub bytes_then : (List ℕ → List ℕ × List ℕ) → List ℕ → Option (ℕ × List ℕ) → List ℕ × List ℕ
 bytes_then more text None = ([], text)
 bytes_then more text (Some next) = (next.0 ∷ (more next.1).0, (more next.1).1)
 
-unfoldable pub bytes_front : ℕ → Bool → List ℕ → List ℕ × List ℕ
-bytes_front zero first text = ([], text)
-bytes_front (suc limit) first text = bytes_then (bytes_front limit false) text (next_byte first text)
+unfoldable pub bytes_prefix : ℕ → Bool → List ℕ → List ℕ × List ℕ
+bytes_prefix zero first text = ([], text)
+bytes_prefix (suc limit) first text = bytes_then (bytes_prefix limit false) text (next_byte first text)
 
--- the text after a length digit, and after a length code, where one stands here
+-- the text after a length digit, and after a length code, where one is here
 abbrev pub after_length : List ℕ → List ℕ
 after_length [] = []
 after_length (b ∷ bs) = if nat_le 48 b && nat_le b 56 then bs else b ∷ bs
@@ -95,33 +95,33 @@ after_code [] = []
 after_code (b ∷ []) = b ∷ []
 after_code (b ∷ digit ∷ bs) = if b == 95 && is_ascii_hexdigit digit then bs else b ∷ digit ∷ bs
 
--- what stands behind the first `#`
-abbrev pub fd_front : List ℕ → Option (Option (List ℕ) × List ℕ)
-fd_front [] = None
-fd_front (flags ∷ bs) =
+-- what is behind the first `#`
+abbrev pub fd_prefix : List ℕ → Option (Option (List ℕ) × List ℕ)
+fd_prefix [] = None
+fd_prefix (flags ∷ bs) =
     if is_ascii_hexdigit flags
-    then Some (Some (bytes_front data_limit true bs).0, (bytes_front data_limit true bs).1)
+    then Some (Some (bytes_prefix data_limit true bs).0, (bytes_prefix data_limit true bs).1)
     else None
 
-abbrev pub classic_front : List ℕ → Option (Option (List ℕ) × List ℕ)
-classic_front text =
-    Some (Some (bytes_front classic_limit true text).0, after_code (bytes_front classic_limit true text).1)
+abbrev pub classic_prefix : List ℕ → Option (Option (List ℕ) × List ℕ)
+classic_prefix text =
+    Some (Some (bytes_prefix classic_limit true text).0, after_code (bytes_prefix classic_limit true text).1)
 
-unfoldable pub body_front : List ℕ → Option (Option (List ℕ) × List ℕ)
-body_front [] = classic_front []
-body_front (b ∷ bs) =
-    if b == 35 then fd_front bs
-    else (if b == 82 || b == 114 then Some (None, after_code (after_length bs)) else classic_front (b ∷ bs))
+unfoldable pub body_prefix : List ℕ → Option (Option (List ℕ) × List ℕ)
+body_prefix [] = classic_prefix []
+body_prefix (b ∷ bs) =
+    if b == 35 then fd_prefix bs
+    else (if b == 82 || b == 114 then Some (None, after_code (after_length bs)) else classic_prefix (b ∷ bs))
 
 -- the interface's place and the line, where the text is no bad line
 unfoldable pub parts_of : List ℕ → Option (Span × LogLine)
 parts_of text = do
-  micros ← stamp_front text
+  micros ← stamp_prefix text
   word ← after_blanks micros.1
   behind ← after_word word
   field ← after_blanks behind
-  key ← key_front field
-  body ← body_front key.1
+  key ← key_prefix field
+  body ← body_prefix key.1
   (if is_tail body.1
       then Some (record { at = length text - length word; end = length text - length behind }, line_from micros.0 key.0 body.0)
       else None)
@@ -137,6 +137,6 @@ line_or_bad (Some parts) = parts.1
 unfoldable pub line_of : List ℕ → LogLine
 line_of text = line_or_bad (read_line text)
 
--- where its interface stands, none of a bad line
+-- where its interface is, none of a bad line
 unfoldable pub interface_of : List ℕ → Option Span
 interface_of text = option_map (λ parts. parts.0) (read_line text)

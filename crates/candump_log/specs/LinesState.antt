@@ -22,8 +22,8 @@ pub record LinesState : Type 0 where
   pub failed : Bool
 
 -- what a source tells
-abbrev pub told : Option (List ℕ) → Option (List ℕ) → ℕ → Bool → SourceState
-told left taken read_faults ended = record { left = left; taken = taken; read_faults = read_faults; ended = ended }
+abbrev pub source_state : Option (List ℕ) → Option (List ℕ) → ℕ → Bool → SourceState
+source_state left taken read_faults ended = record { left = left; taken = taken; read_faults = read_faults; ended = ended }
 
 -- the last so many bytes
 abbrev pub last_bytes : ℕ → List ℕ → List ℕ

@@ -30,7 +30,7 @@ shown source other held place failed = record {
 }
 
 -- the bytes taken are those of the lines given, those let go and those held
-pub record Stands (ended : Bool) (place : Place) (held bytes : List ℕ) : Type 0 where
+pub record IsAt (ended : Bool) (place : Place) (held bytes : List ℕ) : Type 0 where
   pub done : List ℕ
   pub dropped : List ℕ
   pub parted : bytes ≡ done ++ (dropped ++ held)
@@ -45,5 +45,5 @@ pub record Stands (ended : Bool) (place : Place) (held bytes : List ℕ) : Type 
 pub record Keeps (source : SourceState) (held : List ℕ) (place : Place) : Type 0 where
   pub numbers : IsInLog place held
   pub within : IfSome source.taken (λ bytes. place.taken ≤ length bytes)
-  pub stands : IfSome (log_by place.taken source.taken) (Stands source.ended place held)
+  pub is_at : IfSome (log_by place.taken source.taken) (IsAt source.ended place held)
   pub end : source.ended ≡ true → IfSome source.left (λ left. left ≡ [])

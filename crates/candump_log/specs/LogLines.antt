@@ -3,7 +3,7 @@
 use Rattle.std.specs.Prelude.{◌≡◌, ℕ, ◌==◌, false, List, [], ◌∷◌, ◌++◌, if◌then◌else◌}
 use Rattle.std.specs.List.{flat_map}
 
--- a byte before the first whole line; where there is none, it stands in no whole line
+-- a byte before the first whole line; where there is none, it is in no whole line
 abbrev pub onto_whole : ℕ → List (List ℕ) → List (List ℕ)
 onto_whole b [] = []
 onto_whole b (line ∷ lines) = (b ∷ line) ∷ lines
@@ -21,7 +21,7 @@ NoFeed (b ∷ bs) = ((b == 10) ≡ false) × NoFeed bs
 abbrev pub with_feeds : List (List ℕ) → List ℕ
 with_feeds lines = flat_map (λ line. line ++ 10 ∷ []) lines
 
--- what stands after the last line feed, as a line where it is not empty
+-- what is after the last line feed, as a line where it is not empty
 abbrev pub last_line : List ℕ → List (List ℕ)
 last_line [] = []
 last_line (b ∷ bs) = (b ∷ bs) ∷ []

@@ -20,17 +20,17 @@ pub record Took (before now : LinesState) : Type 0 where
   pub taken : now.source.taken ≡ append_known before.source.taken bytes
   pub count : now.taken ≡ before.taken + length bytes
 
--- the texts are the first lines of the log, where both are told
-abbrev pub IsFront : Option (List (List ℕ)) → Option (List ℕ) → Type 0
-IsFront None log = Unit {0}
-IsFront (Some texts) None = Unit {0}
-IsFront (Some texts) (Some log) = (rest : List (List ℕ)) × (all_lines log ≡ texts ++ rest)
+-- the texts are the first lines of the log, where both are known
+abbrev pub IsPrefix : Option (List (List ℕ)) → Option (List ℕ) → Type 0
+IsPrefix None log = Unit {0}
+IsPrefix (Some texts) None = Unit {0}
+IsPrefix (Some texts) (Some log) = (rest : List (List ℕ)) × (all_lines log ≡ texts ++ rest)
 
--- the source need not or may not be asked: a line stands ready, or the log has ended or is at its limit
+-- the source need not or may not be asked: a line is ready, or the log has ended or is at its limit
 abbrev pub AsksNothing : LinesState → Type 0
 AsksNothing s = (s.ready ≡ true) ⊎ ((s.source.ended ≡ true) ⊎ (s.taken ≡ log_limit))
 
--- what every call does, told or not
+-- what every call does, known or not
 pub record Advances (before now : LinesState) : Type 0 where
   pub took : Took before now
   pub log : log_of now ≡ log_of before
@@ -41,9 +41,9 @@ pub record Advances (before now : LinesState) : Type 0 where
   pub given : now.given ≤ now.taken
   pub limit : now.taken ≤ log_limit
   pub counted : IfSome (log_taken now) (λ bytes. length bytes ≡ now.taken)
-  pub front : IsFront now.texts (log_of now)
+  pub prefix : IsPrefix now.texts (log_of now)
 
--- one line more was given, that of this text; where none stood ready, bytes were taken for it or the end was said now
+-- one line more was given, that of this text; where none was ready, bytes were taken for it or the end was said now
 pub record GivesLine (before : LinesState) (line : LogLine) (now : LinesState) : Type 0 where
   pub text : List ℕ
   pub texts : now.texts ≡ option_map (λ texts. texts ++ text ∷ []) before.texts
@@ -52,7 +52,7 @@ pub record GivesLine (before : LinesState) (line : LogLine) (now : LinesState) :
   pub asked : before.ready ≡ false →
       (before.taken < now.taken) ⊎ ((before.source.ended ≡ false) × (now.source.ended ≡ true))
 
--- no line was given, and none stands ready
+-- no line was given, and none is ready
 pub record GivesNone (before now : LinesState) : Type 0 where
   pub texts : now.texts ≡ before.texts
   pub given : now.given ≡ before.given

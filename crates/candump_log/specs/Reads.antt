@@ -4,7 +4,7 @@ use Rattle.std.specs.Option.{option_map}
 use Rattle.std.specs.Io.KnownBytes.{prepend_known, append_known}
 use Rattle.port_io.specs.OtherSide.{SourceState}
 use Rattle.candump_log.specs.LinesState.{LinesState, log_limit, log_of}
-use Rattle.candump_log.specs.NextLine.{IsFront}
+use Rattle.candump_log.specs.NextLine.{IsPrefix}
 
 -- these bytes were taken of a log: they were the first of those left, and are left no more
 pub record TakesBytes (before now : SourceState) (took : List ℕ) : Type 0 where
@@ -22,6 +22,6 @@ pub record Reads (made now : LinesState) (read : List (List ℕ)) : Type 0 where
   pub texts : now.texts ≡ option_map (λ _. read) made.source.taken
   pub log : log_of now ≡ made.source.left
   pub start : log_of made ≡ made.source.left
-  pub front : IsFront now.texts (log_of now)
+  pub prefix : IsPrefix now.texts (log_of now)
   pub given : now.given ≤ log_limit
   pub other : now.other ≡ made.other

@@ -3,7 +3,7 @@ use Rattle.std.specs.Prelude.{◌≡◌, ℕ, ◌<◌, List, slice_get, slice_ra
 use Rattle.std.specs.Str.{bytes_eq}
 use Rattle.byte_forms.specs.Pieces.{◌>>=◌}
 use Rattle.candump_log.specs.declared.log_line.LogLine.{LogLine}
-use Rattle.candump_log.specs.Line.{LinePieces, Spells}
+use Rattle.candump_log.specs.Line.{LinePieces, Encodes}
 use Rattle.candump_log.specs.LineOf.{interface_of}
 
 -- the first name that equals this word
@@ -16,9 +16,9 @@ place_of names text = interface_of text >>= λ span. name_place names (slice_ran
 
 -- the text is no bad line, and this word is its interface
 abbrev pub HasInterface : List ℕ → List ℕ → Type 0
-HasInterface text word = (p : LinePieces) × (line : LogLine) × Spells text p line × (p.interface ≡ word)
+HasInterface text word = (p : LinePieces) × (line : LogLine) × Encodes text p line × (p.interface ≡ word)
 
--- the word stands at this place among the names, and at none before it
+-- the word is at this place among the names, and at none before it
 abbrev pub IsFirstName : List (List ℕ) → List ℕ → ℕ → Type 0
 IsFirstName names word place =
     (slice_get names place ≡ Some word) × ((k : ℕ) → k < place → slice_get names k ≡ Some word → ⊥)

@@ -27,7 +27,7 @@ pub record IsInLog (place : Place) (held : List ℕ) : Type 0 where
   pub behind : place.start + length held ≤ place.taken
   pub long : place.long ≡ true → place.start + length held < place.taken
 
--- what is left to do before the end is said: each fetch takes a byte or is told the end
+-- what is left to do before the end is said: each fetch takes a byte or learns the end
 abbrev pub unsaid : Bool → ℕ
 unsaid true = 0
 unsaid false = 1

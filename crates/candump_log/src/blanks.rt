@@ -7,7 +7,7 @@ ghost use Rattle.candump_log.specs.LineOf.{after_blanks, after_word, is_tail};
 
 use byte_forms::{Class, run};
 
-/// How many blanks stand at the front.
+/// How many blanks are at the front.
 #[inline(always)]
 fn blank_len(bytes: &[u8]) -> usize
     ensures value { result ≡ prefix_len is_blank bytes.now }
@@ -49,7 +49,7 @@ pub(crate) fn after_word(bytes: &[u8]) -> Option<&[u8]>
     Some(rest)
 }
 
-/// Whether nothing stands here, or a blank first.
+/// Whether nothing is here, or a blank first.
 #[inline(always)]
 pub(crate) fn is_tail(bytes: &[u8]) -> bool
     ensures { result ≡ is_tail bytes.now }

@@ -1,8 +1,8 @@
-//! The frame of a line: its identifier, and what stands behind the `#`.
+//! The frame of a line: its identifier, and what is behind the `#`.
 ghost use Rattle.std.specs.Prelude.{◌≡◌, ◌≤◌, Some, true};
 ghost use Rattle.byte_forms.specs.Pieces.{value_view};
-ghost use Rattle.candump_log.specs.LineOf.{key_of, key_front, undotted, next_byte, bytes_front};
-ghost use Rattle.candump_log.specs.LineOf.{after_length, after_code, fd_front, classic_front, body_front};
+ghost use Rattle.candump_log.specs.LineOf.{key_of, key_prefix, after_dot, next_byte, bytes_prefix};
+ghost use Rattle.candump_log.specs.LineOf.{after_length, after_code, fd_prefix, classic_prefix, body_prefix};
 ghost use Rattle.candump_log.specs.LineView.{pair_view};
 
 use crate::digits::hexadecimal_byte;
@@ -41,20 +41,20 @@ fn key_of(digits: &[u8]) -> Option<Key>
 }
 
 /// The identifier before the `#`, and the text after that.
-#[tactic(auto, unfolding(crate::specs::LineOf::key_front))]
+#[tactic(auto, unfolding(crate::specs::LineOf::key_prefix))]
 #[inline(always)]
-pub(crate) fn key_front(bytes: &[u8]) -> Option<(Key, &[u8])>
-    ensures { value_view result ≡ key_front bytes.now }
+pub(crate) fn key_prefix(bytes: &[u8]) -> Option<(Key, &[u8])>
+    ensures { value_view result ≡ key_prefix bytes.now }
 {
     let (digits, rest) = field_before(Class::HexadecimalDigit, b"#", bytes)?;
     let key = key_of(digits)?;
     Some((key, rest))
 }
 
-/// The text after a dot, where one stands here.
+/// The text after a dot, where one is here.
 #[inline(always)]
-fn undotted(bytes: &[u8]) -> &[u8]
-    ensures { result.now ≡ undotted bytes.now }
+fn after_dot(bytes: &[u8]) -> &[u8]
+    ensures { result.now ≡ after_dot bytes.now }
 {
     match bytes {
         [b'.', rest @ ..] => rest,
@@ -62,7 +62,7 @@ fn undotted(bytes: &[u8]) -> &[u8]
     }
 }
 
-/// The byte at the front, before which a dot may stand where it is not the first, and the text after it.
+/// The byte at the front, before which a dot may be where it is not the first, and the text after it.
 #[tactic(auto, unfolding(crate::specs::LineOf::next_byte))]
 #[inline(always)]
 fn next_byte(first: bool, bytes: &[u8]) -> Option<(u8, &[u8])>
@@ -71,15 +71,15 @@ fn next_byte(first: bool, bytes: &[u8]) -> Option<(u8, &[u8])>
     if first {
         hexadecimal_byte(bytes)
     } else {
-        hexadecimal_byte(undotted(bytes))
+        hexadecimal_byte(after_dot(bytes))
     }
 }
 
 /// The bytes at the front, `limit` of them at most, and the text after them.
 #[inline(always)]
-fn bytes_front(limit: usize, bytes: &[u8]) -> (Payload, &[u8])
+fn bytes_prefix(limit: usize, bytes: &[u8]) -> (Payload, &[u8])
     requires { limit ≤ 64 }
-    ensures { pair_view result ≡ bytes_front limit true bytes.now }
+    ensures { pair_view result ≡ bytes_prefix limit true bytes.now }
 {
     let mut payload = Payload::new();
     let mut rest = bytes;
@@ -93,7 +93,7 @@ fn bytes_front(limit: usize, bytes: &[u8]) -> (Payload, &[u8])
     (payload, rest)
 }
 
-/// The text after a length digit, where one stands here.
+/// The text after a length digit, where one is here.
 #[inline(always)]
 fn after_length(bytes: &[u8]) -> &[u8]
     ensures { result.now ≡ after_length bytes.now }
@@ -104,7 +104,7 @@ fn after_length(bytes: &[u8]) -> &[u8]
     }
 }
 
-/// The text after a length code, where one stands here.
+/// The text after a length code, where one is here.
 #[inline(always)]
 fn after_code(bytes: &[u8]) -> &[u8]
     ensures { result.now ≡ after_code bytes.now }
@@ -117,8 +117,8 @@ fn after_code(bytes: &[u8]) -> &[u8]
 
 /// The data of a CAN FD frame behind its second `#`, and the text after it.
 #[inline(always)]
-fn fd_front(bytes: &[u8]) -> Option<(Option<Payload>, &[u8])>
-    ensures { value_view result ≡ fd_front bytes.now }
+fn fd_prefix(bytes: &[u8]) -> Option<(Option<Payload>, &[u8])>
+    ensures { value_view result ≡ fd_prefix bytes.now }
 {
     let [flags, digits @ ..] = bytes else {
         return None;
@@ -126,28 +126,28 @@ fn fd_front(bytes: &[u8]) -> Option<(Option<Payload>, &[u8])>
     if !flags.is_ascii_hexdigit() {
         return None;
     }
-    let (payload, rest) = bytes_front(DATA_LIMIT, digits);
+    let (payload, rest) = bytes_prefix(DATA_LIMIT, digits);
     Some((Some(payload), rest))
 }
 
 /// The data of a classic frame, and the text after it.
 #[inline(always)]
-fn classic_front(bytes: &[u8]) -> Option<(Option<Payload>, &[u8])>
-    ensures { value_view result ≡ classic_front bytes.now }
+fn classic_prefix(bytes: &[u8]) -> Option<(Option<Payload>, &[u8])>
+    ensures { value_view result ≡ classic_prefix bytes.now }
 {
-    let (payload, rest) = bytes_front(CLASSIC_LIMIT, bytes);
+    let (payload, rest) = bytes_prefix(CLASSIC_LIMIT, bytes);
     Some((Some(payload), after_code(rest)))
 }
 
 /// The data behind the first `#`, none of a remote frame, and the text after it.
-#[tactic(auto, unfolding(crate::specs::LineOf::body_front))]
+#[tactic(auto, unfolding(crate::specs::LineOf::body_prefix))]
 #[inline(always)]
-pub(crate) fn body_front(bytes: &[u8]) -> Option<(Option<Payload>, &[u8])>
-    ensures { value_view result ≡ body_front bytes.now }
+pub(crate) fn body_prefix(bytes: &[u8]) -> Option<(Option<Payload>, &[u8])>
+    ensures { value_view result ≡ body_prefix bytes.now }
 {
     match bytes {
-        [b'#', rest @ ..] => fd_front(rest),
+        [b'#', rest @ ..] => fd_prefix(rest),
         [b'R' | b'r', rest @ ..] => Some((None, after_code(after_length(rest)))),
-        _ => classic_front(bytes),
+        _ => classic_prefix(bytes),
     }
 }

@@ -1,7 +1,7 @@
 //! The bytes that a reader of lines holds: those of its buffer between two places.
 ghost use Rattle.std.specs.Prelude.{◌≡◌, ◌<◌, ◌≤◌, [], length, drop, IfOk};
 ghost use Rattle.port_io.specs.OtherSide.{OtherSide};
-ghost use Rattle.candump_log.specs.LinesState.{told};
+ghost use Rattle.candump_log.specs.LinesState.{source_state};
 ghost use Rattle.candump_log.specs.Steps.{ReadsInto};
 
 use port_io::{Failed, Source};
@@ -77,9 +77,9 @@ impl Held {
         requires most { most ≤ 65536 }
 
         ensures read { ReadsInto
-            (told (S.left source.old) (S.taken source.old) (S.read_faults source.old) (S.ended source.old))
+            (source_state (S.left source.old) (S.taken source.old) (S.read_faults source.old) (S.ended source.old))
             self.old result
-            (told (S.left source.new) (S.taken source.new) (S.read_faults source.new) (S.ended source.new))
+            (source_state (S.left source.new) (S.taken source.new) (S.read_faults source.new) (S.ended source.new))
             self.new }
         ensures count { IfOk result (λ n. n ≤ most) }
         ensures other { S.other source.new ≡ S.other source.old }

@@ -19,7 +19,7 @@ ghost use Rattle.candump_log.specs.NextLine.{NextLine, NextOn, HasEnded, HasStop
 ghost use Rattle.candump_log.specs.NextLine.{IsAtEnd, IsAtLimit, unrouted};
 ghost use Rattle.candump_log.specs.Reads.{Reads};
 
-/// Each text says one thing as a line of a log, within its limits, and its interface stands at one place, at
+/// Each text says one thing as a line of a log, within its limits, and its interface is at one place, at
 /// none in a bad line: what is read piece by piece.
 pub fn one_line()
     ensures some { (text : List ℕ) → IsLine text (line_of text) }

@@ -1,8 +1,8 @@
 //! The lines of a log in the format of candump, read as a stream from any source: classic and CAN FD
 //! frames, remote and error frames, and bad lines, in flat memory.
 //!
-//! It stands on `port_io` (sources), `byte_forms` (runs, digits, all lines of bytes) and `bench_model` (keys
-//! and names); what decodes a log, splits a feed or judges a recording stands above it.
+//! It builds on `port_io` (sources), `byte_forms` (runs, digits, all lines of bytes) and `bench_model` (keys
+//! and names); what decodes a log, splits a feed or judges a recording is above it.
 //!
 //! The main theorem: over all its calls `Lines::next` gives the lines of the source's bytes in order, each
 //! what `line` says of its text, whatever the sizes of the reads; it answers none exactly where the log has

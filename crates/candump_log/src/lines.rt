@@ -1,8 +1,8 @@
 //! The lines of a log, read from any source.
 ghost use Rattle.std.specs.Prelude.{◌≡◌, ◌≤◌, ◌^◌, ◌↔◌, true, false, length, IsSome, IfSome, IfOk, IsOkAnd, IfErr};
 ghost use Rattle.candump_log.specs.Line.{KeepsLimits};
-ghost use Rattle.candump_log.specs.LinesState.{told, fresh, log_of, log_limit};
-ghost use Rattle.candump_log.specs.NextLine.{NextLine, NextOn, IsFront, IsAtEnd, IsAtLimit};
+ghost use Rattle.candump_log.specs.LinesState.{source_state, fresh, log_of, log_limit};
+ghost use Rattle.candump_log.specs.NextLine.{NextLine, NextOn, IsPrefix, IsAtEnd, IsAtLimit};
 
 use crate::held::Held;
 use crate::log_line::LogLine;
@@ -31,17 +31,17 @@ pub struct NoLines<S> {
 
 impl<S: Source> Model for Lines<S> {
     ghost use Rattle.std.specs.Prelude.{◌≡◌};
-    ghost use Rattle.candump_log.specs.LinesState.{LinesState, told};
+    ghost use Rattle.candump_log.specs.LinesState.{LinesState, source_state};
     ghost use Rattle.candump_log.specs.LinesView.{Keeps, shown};
 
     ghost Value = { LinesState };
 
     ghost view = { λ l. shown
-        (told (S.left l.source) (S.taken l.source) (S.read_faults l.source) (S.ended l.source))
+        (source_state (S.left l.source) (S.taken l.source) (S.read_faults l.source) (S.ended l.source))
         (S.other l.source) l.held l.place l.failed };
 
     ghost invariant = { λ l. Keeps
-        (told (S.left l.source) (S.taken l.source) (S.read_faults l.source) (S.ended l.source)) l.held l.place
+        (source_state (S.left l.source) (S.taken l.source) (S.read_faults l.source) (S.ended l.source)) l.held l.place
         × (l.ended ≡ S.ended l.source) };
 }
 
@@ -50,7 +50,7 @@ impl<S: Source> Lines<S> {
     pub fn new(alloc: Global, source: S) -> Result<Lines<S>, NoLines<S>>
         requires { S.ended source ≡ false }
         ensures lines { IfOk result (λ lines. lines ≡ fresh
-            (told (S.left source) (S.taken source) (S.read_faults source) (S.ended source)) (S.other source)) }
+            (source_state (S.left source) (S.taken source) (S.read_faults source) (S.ended source)) (S.other source)) }
         ensures log { IfOk result (λ lines. log_of lines ≡ S.left source) }
         ensures refused { IfErr result (λ no. no.source ≡ source) }
     {
@@ -133,14 +133,14 @@ impl<S: Source> Lines<S> {
         ensures value { result ≡ self.now.taken }
         ensures limit { result ≤ log_limit }
         ensures given { self.now.given ≤ result }
-        ensures front { IsFront self.now.texts (log_of self.now) }
+        ensures prefix { IsPrefix self.now.texts (log_of self.now) }
     {
         self.place.taken
     }
 
-    /// The source, as it stands.
+    /// The source, as it is.
     pub fn into_source(self) -> S
-        ensures source { told (S.left result) (S.taken result) (S.read_faults result) (S.ended result)
+        ensures source { source_state (S.left result) (S.taken result) (S.read_faults result) (S.ended result)
             ≡ self.source }
         ensures other { S.other result ≡ self.other }
     {

@@ -4,9 +4,9 @@ ghost use Rattle.candump_log.specs.Line.{line_from, IsLine, IsInterface, KeepsLi
 ghost use Rattle.candump_log.specs.LineOf.{parts_of, read_line, line_of, interface_of};
 
 use crate::blanks::{after_blanks, after_word, is_tail};
-use crate::frame::{body_front, key_front};
+use crate::frame::{body_prefix, key_prefix};
 use crate::payload::Payload;
-use crate::stamp::stamp_front;
+use crate::stamp::stamp_prefix;
 use bench_model::Key;
 
 /// The most bytes that a line may have.
@@ -70,12 +70,12 @@ fn parts_of(text: &[u8]) -> Option<(Span, LogLine)>
     ensures value { result ≡ parts_of text.now }
     ensures within { IfSome result (λ parts. (parts.0.at ≤ parts.0.end) × (parts.0.end ≤ length text.now)) }
 {
-    let (micros, rest) = stamp_front(text)?;
+    let (micros, rest) = stamp_prefix(text)?;
     let word = after_blanks(rest)?;
     let behind = after_word(word)?;
     let field = after_blanks(behind)?;
-    let (key, body) = key_front(field)?;
-    let (content, tail) = body_front(body)?;
+    let (key, body) = key_prefix(field)?;
+    let (content, tail) = body_prefix(body)?;
     if !is_tail(tail) {
         return None;
     }
@@ -103,7 +103,7 @@ pub(crate) fn read_line(text: &[u8]) -> Option<(Span, LogLine)>
 ///
 /// - `(1.000002) can0 123#A00F`: 3 digits are an 11-bit identifier; the bytes A0 0F at 1,000,002 microseconds.
 /// - `(1.000000) can0 18FEF100#`: 8 digits are a 29-bit identifier; no bytes.
-/// - `(1.000000) can0 123#11.22.33`: a dot may stand between two bytes; the bytes 11 22 33.
+/// - `(1.000000) can0 123#11.22.33`: a dot may be between two bytes; the bytes 11 22 33.
 /// - `(1.000000) can0 123#1122334455667788_9`: a length code behind the bytes says nothing more.
 /// - `(1.000000) can0 123#R`: a remote frame.
 /// - `(1.000000) can0 123#R7_f`: a remote frame, too; its length and its length code are passed over.
@@ -123,7 +123,7 @@ pub fn line(bytes: &[u8]) -> LogLine
     }
 }
 
-/// Where the interface's word stands in a line, none of a bad line.
+/// Where the interface's word is in a line, none of a bad line.
 #[tactic(auto, unfolding(crate::specs::LineOf::interface_of))]
 pub fn interface(bytes: &[u8]) -> Option<Span>
     ensures value { result ≡ interface_of bytes.now }

@@ -10,7 +10,7 @@ pub(crate) const DATA_LIMIT: usize = 64;
 
 pub(crate) const CLASSIC_LIMIT: usize = 8;
 
-/// The data bytes of a frame, 64 at most. They stand in the value itself, and contracts see them as a list.
+/// The data bytes of a frame, 64 at most. They are in the value itself, and contracts see them as a list.
 #[derive(Debug, Drop)]
 pub struct Payload {
     content: ArrayVec<u8, DATA_LIMIT>,

@@ -1,15 +1,15 @@
 //! The time stamp of a line.
 ghost use Rattle.std.specs.Prelude.{◌≡◌, ◌+◌, ◌*◌, ◌<◌, ◌≤◌, ◌^◌, length, IfSome};
 ghost use Rattle.byte_forms.specs.Pieces.{value_view};
-ghost use Rattle.candump_log.specs.LineOf.{digits_front, number_before, stamp_front};
+ghost use Rattle.candump_log.specs.LineOf.{digits_prefix, number_before, stamp_prefix};
 
 use byte_forms::after_literal;
 
 /// The decimal digits at the front, where they are not more than `most`: how many, and their number.
 #[inline(always)]
-fn digits_front(most: usize, bytes: &[u8]) -> Option<(usize, u64)>
+fn digits_prefix(most: usize, bytes: &[u8]) -> Option<(usize, u64)>
     requires { most ≤ 12 }
-    ensures value { result ≡ digits_front most bytes.now }
+    ensures value { result ≡ digits_prefix most bytes.now }
     ensures within { IfSome result (λ digits. digits.0 ≤ length bytes.now) }
     ensures below { IfSome result (λ digits. digits.1 < 10 ^ 12) }
 {
@@ -40,7 +40,7 @@ fn number_before<'a>(
     ensures within { IfSome result (λ found. length found.1.now ≤ length bytes.now) }
     ensures below { IfSome result (λ found. found.0 < 10 ^ 12) }
 {
-    let (count, value) = digits_front(most, bytes)?;
+    let (count, value) = digits_prefix(most, bytes)?;
     let rest = after_literal(literal, &bytes[count..])?;
     if count < least {
         return None;
@@ -49,10 +49,10 @@ fn number_before<'a>(
 }
 
 /// The stamp at the front in microseconds, and the text after it.
-#[tactic(auto, unfolding(crate::specs::LineOf::stamp_front))]
+#[tactic(auto, unfolding(crate::specs::LineOf::stamp_prefix))]
 #[inline(always)]
-pub(crate) fn stamp_front(bytes: &[u8]) -> Option<(u64, &[u8])>
-    ensures value { value_view result ≡ stamp_front bytes.now }
+pub(crate) fn stamp_prefix(bytes: &[u8]) -> Option<(u64, &[u8])>
+    ensures value { value_view result ≡ stamp_prefix bytes.now }
     ensures within { IfSome result (λ found. length found.1.now ≤ length bytes.now) }
 {
     let opened = after_literal(b"(", bytes)?;

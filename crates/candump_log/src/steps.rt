@@ -1,6 +1,6 @@
 //! What a reader of lines does, in parts: each over the bytes held and the place alone.
 ghost use Rattle.std.specs.Prelude.{◌≡◌, ◌^◌, ◌≤◌, length};
-ghost use Rattle.candump_log.specs.LinesState.{told};
+ghost use Rattle.candump_log.specs.LinesState.{source_state};
 ghost use Rattle.candump_log.specs.LinesView.{is_ready};
 ghost use Rattle.candump_log.specs.Steps.{IsInLog, TakesWhole, TakesLast, LetsGo, FetchesSome};
 
@@ -78,9 +78,9 @@ pub(crate) fn fetch<S: Source>(
     requires log { IsInLog place.old held.old }
 
     ensures fetches { FetchesSome
-        (told (S.left source.old) (S.taken source.old) (S.read_faults source.old) (S.ended source.old))
+        (source_state (S.left source.old) (S.taken source.old) (S.read_faults source.old) (S.ended source.old))
         held.old place.old result
-        (told (S.left source.new) (S.taken source.new) (S.read_faults source.new) (S.ended source.new))
+        (source_state (S.left source.new) (S.taken source.new) (S.read_faults source.new) (S.ended source.new))
         held.new place.new }
     ensures other { S.other source.new ≡ S.other source.old }
 {

@@ -30,14 +30,14 @@ use Rattle.sig_text.specs.declared.fault.LexFault.{LexFault}
 use Rattle.sig_text.specs.Tokens.{IsTokens, IsLexFault}
 use Rattle.token_forms.specs.Pieces.{token_text}
 use Rattle.token_forms.specs.Runs.{run_of}
-use Rattle.token_forms.specs.Stands.{Each}
+use Rattle.token_forms.specs.Grammar.{Each}
 use Rattle.dbc_grammar.specs.declared.fault.DbcFault.{DbcFault}
 use Rattle.dbc_grammar.specs.declared.fault.DbcFault.TheVariants as faults
 use Rattle.dbc_grammar.specs.declared.statement.Note.{Note}
 use Rattle.dbc_grammar.specs.declared.statement.SignalForm.{SignalForm}
 use Rattle.dbc_grammar.specs.declared.statement.MessageForm.{MessageForm}
 use Rattle.dbc_grammar.specs.declared.statement.Statement.{Statement}
-use Rattle.dbc_grammar.specs.Statements.{Stands}
+use Rattle.dbc_grammar.specs.Statements.{Parses}
 use Rattle.dbc_grammar.specs.Forms.{statement_at}
 use Rattle.dbc_grammar.specs.Naming.{Noted, noted_in, message_key, is_first_message, notes_on, places_in}
 use Rattle.dbc_grammar.specs.Gather.{IsSignalOf, IsSignalAt, labels_in, float_after, message_marks}
@@ -48,10 +48,10 @@ use Rattle.dbc_grammar.proofs.RowLaws.{rec-all}
 use Rattle.dbc_grammar.proofs.MadeLaws.{messages_made}
 use Rattle.dbc_grammar.proofs.WideLaws.{OneScale, SomeScale, scales_decide, AreScaled}
 
--- the statements that are read stand there, as many as there are
+-- the statements that are read are there, as many as there are
 abbrev pub SomeRun : Type 0
 SomeRun = (text : List ℕ) (tokens : List Token)
-    → Each (Stands text) (run_of (statement_at text) tokens).0 tokens (run_of (statement_at text) tokens).1
+    → Each (Parses text) (run_of (statement_at text) tokens).0 tokens (run_of (statement_at text) tokens).1
 
 -- what the crates below say: each text has tokens or a fault, each message a tree or a fault, and each database a verdict
 pub record Found : Type 0 where
@@ -212,17 +212,17 @@ message_before text utf8 noted all n m forms scaled parents tree later = elim la
   })
 ]
 
-front_of : (text : List ℕ) (xs ys : List SignalForm) → AreScaled text (xs ++ ys)
+prefix_of : (text : List ℕ) (xs ys : List SignalForm) → AreScaled text (xs ++ ys)
     → AreScaled text xs × AreScaled text ys
-front_of text [] ys all = (tt, all)
-front_of text (x ∷ xs) ys all = let rest = front_of text xs ys all.1 in ((all.0, rest.0), rest.1)
+prefix_of text [] ys all = (tt, all)
+prefix_of text (x ∷ xs) ys all = let rest = prefix_of text xs ys all.1 in ((all.0, rest.0), rest.1)
 
 messages_or_treeless : (found : Found) (text : List ℕ) (utf8 : Bool) (noted : Noted) (all : List MessageForm) (n : ℕ)
     (forms : List MessageForm)
     → AreScaled text (all_signals forms) → MessagesOrTreeless text utf8 noted all n forms
 messages_or_treeless found text utf8 noted all n [] scaled = inl ([], tt)
 messages_or_treeless found text utf8 noted all n (m ∷ forms) scaled =
-    let parts = front_of text m.signals (all_signals forms) scaled in
+    let parts = prefix_of text m.signals (all_signals forms) scaled in
     elim (found.tree (message_marks m) (message_links text noted (is_first_message all n m) m)) [
       | inl tree ↦ message_before text utf8 noted all n m forms parts.0 tree.0 tree.1
           (messages_or_treeless found text utf8 noted all (n + 1) forms parts.1)
@@ -241,7 +241,7 @@ judged found bytes statements d are gathers =
     let forms = messages_of statements in
     elim (found.verdict d
     (rec-all IsMade d.messages (messages_made bytes gathers.utf8 noted forms 0 forms d.messages found.over gathers.messages))) [
-      | inl valid ↦ inl (d, record { statements = statements; are_statements = are; gathered = gathers; valid = valid })
+      | inl valid ↦ inl (d, record { statements = statements; are_statements = are; build_database = gathers; valid = valid })
       | inr fault ↦ inr (faults.Check fault.0, (statements, d, are, gathers, fault.1))
     ]
 
@@ -288,7 +288,7 @@ with_statements found bytes statements are = elim (wide_or_scaled found bytes (a
 ]
 
 with_run : (found : Found) (bytes : List ℕ) (tokens : List Token) → IsTokens bytes false tokens
-    → (statements : List Statement) (rest : List Token) → Each (Stands bytes) statements tokens rest → HasSome bytes
+    → (statements : List Statement) (rest : List Token) → Each (Parses bytes) statements tokens rest → HasSome bytes
 with_run found bytes tokens are statements [] longest =
     with_statements found bytes statements (record { tokens = tokens; are_tokens = are; all = longest })
 with_run found bytes tokens are statements (token ∷ later) longest = inr (

@@ -37,13 +37,13 @@ IfFound P None = Unit {0}
 IfFound P (Some x) = P x
 
 -- a word of which this is known
-pub record IsWordToken (Told : Token → Type 0) (token : Token) : Type 0 where
-  pub there : Told token
+pub record IsWordToken (Known : Token → Type 0) (token : Token) : Type 0 where
+  pub there : Known token
   pub kind : token.kind ≡ Word
 
 -- what lists of tokens keep says this of each token, and the tokens behind it keep it, too
-pub record IsInherited (Left : List Token → Type 0) (Told : Token → Type 0) : Type 0 where
-  pub head : (token : Token) (rest : List Token) → Left (token ∷ rest) → Told token
+pub record IsInherited (Left : List Token → Type 0) (Known : Token → Type 0) : Type 0 where
+  pub head : (token : Token) (rest : List Token) → Left (token ∷ rest) → Known token
   pub tail : (token : Token) (rest : List Token) → Left (token ∷ rest) → Left rest
 
 -- ---- steps of forms
@@ -70,13 +70,13 @@ pub whatever : {A : Type 0} (o : Option A) → IfFound (λ (x : A). Unit {0}) o
 whatever None = tt
 whatever (Some x) = tt
 
-module _ (Left : List Token → Type 0) (Told : Token → Type 0) (kept : IsInherited Left Told) where
+module _ (Left : List Token → Type 0) (Known : Token → Type 0) (kept : IsInherited Left Known) where
   -- the tokens behind what is found keep it
   abbrev pub Leaves : {A : Type 0} → A × List Token → Type 0
   Leaves found = Left found.1
 
   abbrev pub IsWordBefore : Token × List Token → Type 0
-  IsWordBefore found = IsWordToken Told found.0 × Left found.1
+  IsWordBefore found = IsWordToken Known found.0 × Left found.1
 
   pub optional_of : (text : List ℕ) (tokens : List Token) (o : Option (List Token)) → Left tokens → IfFound Left o
       → Left (optional tokens o)
@@ -94,7 +94,7 @@ module _ (Left : List Token → Type 0) (Told : Token → Type 0) (kept : IsInhe
   -- what is known of the tokens at whose front a form begins
   abbrev pub Behind : List Token → Type 0
   Behind [] = Unit {0}
-  Behind (token ∷ rest) = Told token × Left rest
+  Behind (token ∷ rest) = Known token × Left rest
 
   pub behind : (tokens : List Token) → Left tokens → Behind tokens
   behind [] of = tt
@@ -110,44 +110,44 @@ module _ (Left : List Token → Type 0) (Told : Token → Type 0) (kept : IsInhe
   literal_of : (text literal : List ℕ) (tokens : List Token) → Left tokens → IfFound Left (literal_at text literal tokens)
   literal_of text literal tokens of = literal_first text literal tokens (behind tokens of)
 
-  word_told : (text : List ℕ) (token : Token) (kind : TokenKind) (rest : List Token) → token.kind ≡ kind → Told token → Left rest
+  word_known : (text : List ℕ) (token : Token) (kind : TokenKind) (rest : List Token) → token.kind ≡ kind → Known token → Left rest
       → IfFound IsWordBefore (word_by token kind rest)
-  word_told text token Word rest is there of = (record { there = there; kind = is }, of)
-  word_told text token Number rest is there of = tt
-  word_told text token Str rest is there of = tt
-  word_told text token Sign rest is there of = tt
+  word_known text token Word rest is there of = (record { there = there; kind = is }, of)
+  word_known text token Number rest is there of = tt
+  word_known text token Str rest is there of = tt
+  word_known text token Sign rest is there of = tt
 
   word_first : (text : List ℕ) (tokens : List Token) → Behind tokens → IfFound IsWordBefore (word_at tokens)
   unfolding word_at
   word_first text [] of = tt
-  word_first text (token ∷ rest) of = word_told text token token.kind rest refl of.0 of.1
+  word_first text (token ∷ rest) of = word_known text token token.kind rest refl of.0 of.1
 
   word_of : (text : List ℕ) (tokens : List Token) → Left tokens → IfFound IsWordBefore (word_at tokens)
   word_of text tokens of = word_first text tokens (behind tokens of)
 
-  number_told : (text : List ℕ) (token : Token) (kind : TokenKind) (rest : List Token) → Left rest
+  number_known : (text : List ℕ) (token : Token) (kind : TokenKind) (rest : List Token) → Left rest
       → IfFound Leaves (number_by token kind rest)
-  number_told text token Word rest of = tt
-  number_told text token Number rest of = of
-  number_told text token Str rest of = tt
-  number_told text token Sign rest of = tt
+  number_known text token Word rest of = tt
+  number_known text token Number rest of = of
+  number_known text token Str rest of = tt
+  number_known text token Sign rest of = tt
 
   number_of : (text : List ℕ) (tokens : List Token) → Behind tokens → IfFound Leaves (number_at tokens)
   unfolding number_at
   number_of text [] of = tt
-  number_of text (token ∷ rest) of = number_told text token token.kind rest of.1
+  number_of text (token ∷ rest) of = number_known text token token.kind rest of.1
 
-  string_told : (text : List ℕ) (token : Token) (kind : TokenKind) (rest : List Token) → Left rest
+  string_known : (text : List ℕ) (token : Token) (kind : TokenKind) (rest : List Token) → Left rest
       → IfFound Leaves (string_by token kind rest)
-  string_told text token Word rest of = tt
-  string_told text token Number rest of = tt
-  string_told text token Str rest of = of
-  string_told text token Sign rest of = tt
+  string_known text token Word rest of = tt
+  string_known text token Number rest of = tt
+  string_known text token Str rest of = of
+  string_known text token Sign rest of = tt
 
   pub string_of : (text : List ℕ) (tokens : List Token) → Left tokens → IfFound Leaves (string_at tokens)
   unfolding string_at
   string_of text [] of = tt
-  string_of text (token ∷ rest) of = string_told text token token.kind rest (kept.tail token rest of)
+  string_of text (token ∷ rest) of = string_known text token token.kind rest (kept.tail token rest of)
 
   pub whole_of : (text : List ℕ) (limit : ℕ) (tokens : List Token) → Left tokens → IfFound Leaves (whole_at text limit tokens)
   unfolding whole_at
@@ -281,10 +281,10 @@ module _ (Left : List Token → Type 0) (Told : Token → Type 0) (kept : IsInhe
 
   -- ---- messages and signals
 
-  mark_told : (text : List ℕ) (tokens : List Token) (o : Option (Token × List Token)) → Left tokens → IfFound IsWordBefore o
+  mark_known : (text : List ℕ) (tokens : List Token) (o : Option (Token × List Token)) → Left tokens → IfFound IsWordBefore o
       → IfFound Leaves (mark_by text tokens o)
-  mark_told text tokens None of word = of
-  mark_told text tokens (Some found) of word =
+  mark_known text tokens None of word = of
+  mark_known text tokens (Some found) of word =
       bound (λ (m : Mark). Unit {0}) Leaves (mark_of (token_text text found.0)) _ (whatever (mark_of (token_text text found.0)))
       (λ mark any. word.1)
 
@@ -350,30 +350,30 @@ module _ (Left : List Token → Type 0) (Told : Token → Type 0) (kept : IsInhe
       node_of text (optional tokens (literal_at text (codes ",") tokens))
       (optional_first tokens (literal_at text (codes ",") tokens) of (literal_first text (codes ",") tokens of))
 
-  receivers_told : (text : List ℕ) (tokens : List Token) (o : Option (Token × List Token)) → Left tokens → IfFound Leaves o
+  receivers_known : (text : List ℕ) (tokens : List Token) (o : Option (Token × List Token)) → Left tokens → IfFound Leaves o
       → Left (receivers_by text tokens o)
-  receivers_told text tokens None of found = of
-  receivers_told text tokens (Some first) of found =
+  receivers_known text tokens None of found = of
+  receivers_known text tokens (Some first) of found =
       run_of_of text (receiver_at text) (λ ts left. receiver_of text ts (behind ts left)) first.1 found
 
   receivers_of : (text : List ℕ) (tokens : List Token) → Left tokens → Left (receivers_at text tokens)
   unfolding receivers_at
-  receivers_of text tokens of = receivers_told text tokens (node_at text tokens) of (node_of text tokens (behind tokens of))
+  receivers_of text tokens of = receivers_known text tokens (node_at text tokens) of (node_of text tokens (behind tokens of))
 
   abbrev NamesHead : Token × Mark × List Token → Type 0
-  NamesHead head = IsWordToken Told head.0 × Left head.2
+  NamesHead head = IsWordToken Known head.0 × Left head.2
 
   head_of : (text : List ℕ) (tokens : List Token) → Behind tokens → IfFound NamesHead (signal_head_at text tokens)
   unfolding signal_head_at
   head_of text tokens of =
       bound Left NamesHead (literal_at text (codes "SG_") tokens) _ (literal_first text (codes "SG_") tokens of) (λ rest a.
       bound IsWordBefore NamesHead (word_at rest) _ (word_of text rest a) (λ name b.
-      bound Leaves NamesHead (mark_at text name.1) _ (mark_told text name.1 (word_at name.1) b.1 (word_of text name.1 b.1)) (λ mark c.
+      bound Leaves NamesHead (mark_at text name.1) _ (mark_known text name.1 (word_at name.1) b.1 (word_of text name.1 b.1)) (λ mark c.
       bound Left NamesHead (literal_at text (codes ":") mark.1) _ (literal_of text (codes ":") mark.1 c) (λ after d. (b.0, d)))))
 
   -- the name of a signal is a word of the text
   abbrev pub NamesSignal : SignalForm → Type 0
-  NamesSignal s = IsWordToken Told s.name
+  NamesSignal s = IsWordToken Known s.name
 
   pub signal_of : (text : List ℕ) (tokens : List Token) → Behind tokens → IfFound (Keeps NamesSignal) (signal_at text tokens)
   unfolding signal_at
@@ -387,7 +387,7 @@ module _ (Left : List Token → Type 0) (Told : Token → Type 0) (kept : IsInhe
 
   -- the name of a message, and those of its signals
   abbrev NamesHeading : Heading → Type 0
-  NamesHeading h = IsWordToken Told h.name
+  NamesHeading h = IsWordToken Known h.name
 
   heading_of : (text : List ℕ) (tokens : List Token) → Behind tokens → IfFound (Keeps NamesHeading) (heading_at text tokens)
   unfolding heading_at
@@ -402,7 +402,7 @@ module _ (Left : List Token → Type 0) (Told : Token → Type 0) (kept : IsInhe
       where_true Named (is_identifier id.0) _ None (c.0, f.1) tt))))))
 
   pub record NamesMessage (m : MessageForm) : Type 0 where
-    pub message : IsWordToken Told m.heading.name
+    pub message : IsWordToken Known m.heading.name
     pub signals : AllByRecursion NamesSignal m.signals
 
   message_of : (text : List ℕ) (tokens : List Token) → Behind tokens → IfFound (Keeps NamesMessage) (message_at text tokens)

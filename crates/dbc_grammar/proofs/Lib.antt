@@ -15,8 +15,8 @@ pub mod FormLaws
 pub mod NameLaws
 pub mod TakesLaws
 pub mod PartLaws
-pub mod NoteStandsLaws
+pub mod NoteParsesLaws
 pub mod MarkLaws
-pub mod SignalStandsLaws
-pub mod PassedStandsLaws
-pub mod StatementStandsLaws
+pub mod SignalParsesLaws
+pub mod PassedParsesLaws
+pub mod StatementParsesLaws

@@ -18,7 +18,7 @@ use Rattle.byte_forms.specs.Classes.{is_in}
 use Rattle.byte_forms.specs.Numerals.{number_of, is_numeral, number_up_to}
 use Rattle.byte_forms.specs.Pieces.{◌>>=◌, after_literal}
 use Rattle.multiplex_tree.specs.declared.mark.Mark.{Mark}
-use Rattle.token_forms.specs.Stands.{HasValue}
+use Rattle.token_forms.specs.Grammar.{HasValue}
 use Rattle.dbc_grammar.specs.Limits.{small_limit}
 use Rattle.dbc_grammar.specs.Statements.{IsGroupMark, IsMark, plain, grouped, both}
 use Rattle.dbc_grammar.specs.Forms.{◌<|>◌, without_last_M, group_mark, mark_of}
@@ -32,7 +32,7 @@ pub record Values : Type 0 where
 some_same : {A : Type 0} (x y : A) → Some x ≡ Some y → x ≡ y
 some_same x y e = cc
 
--- what stands behind the m
+-- what is behind the m
 after_m : (text digits : List ℕ) → after_literal (codes "m") text ≡ Some digits → text ≡ codes "m" ++ digits
 unfolding after_literal
 after_m [] digits e = absurd (none-some digits e)
@@ -44,7 +44,7 @@ behind_m : (digits : List ℕ) → after_literal (codes "m") (codes "m" ++ digit
 unfolding after_literal
 behind_m digits = refl
 
--- what stands before the last M
+-- what is before the last M
 last_cut : (text : List ℕ) → 0 < length text → text ≡ take (length text - 1) text ++ get_or text (length text - 1) 0 ∷ []
 last_cut text some =
     let less : length text - 1 < length text = omega arith in
@@ -69,10 +69,10 @@ there_M digits text e =
     let some : nat_lt 0 (length text) ≡ true = lt_true 0 (length text) (omega arith) in
     let last : slice_index text (length text - 1) ≡ 77 =
     ap (slice_index text) place ∙ ap (λ t. slice_index t (length digits)) e ∙ get_or-append_seam digits 77 [] 0 in
-    let front : take (length text - 1) text ≡ digits =
+    let prefix : take (length text - 1) text ≡ digits =
     ap (λ n. take n text) place ∙ ap (take (length digits)) e ∙ take-append_seam digits (codes "M") in
     ap (λ b. if b && (slice_index text (length text - 1) == 77) then Some (take (length text - 1) text) else None) some
-    ∙ ap (λ n. if n == 77 then Some (take (length text - 1) text) else None) last ∙ ap Some front
+    ∙ ap (λ n. if n == 77 then Some (take (length text - 1) text) else None) last ∙ ap Some prefix
 
 -- digits do not end in an M
 no_digits : (digits : List ℕ) → list_all (is_in classes.DecimalDigit) (digits ++ codes "M") ≡ false
@@ -110,14 +110,14 @@ group_there below digits multiplexor mark is =
     ap (option_map (group_mark multiplexor)) ((below.value Decimal digits small_limit is.group).1 is.has_value) ∙ ap Some (sym is.mark_is)
 
 behind_found : Values → (text digits : List ℕ) (mark : Mark) → text ≡ codes "m" ++ digits → behind_mark digits ≡ Some mark → IsMark text mark
-behind_found below text digits mark front is =
+behind_found below text digits mark prefix is =
     let first = option_map (group_mark false) (number_up_to Decimal small_limit digits) in
     elim (none_or_some first) [
-      | inr (x, e) ↦ grouped digits front (group_found below digits false mark (e ∙ (sym (ap (λ o. o <|> last_mark digits) e) ∙ is)))
+      | inr (x, e) ↦ grouped digits prefix (group_found below digits false mark (e ∙ (sym (ap (λ o. o <|> last_mark digits) e) ∙ is)))
       | inl none ↦
           let last = unbind (without_last_M digits) (λ d. option_map (group_mark true) (number_up_to Decimal small_limit d)) mark
           (sym (ap (λ o. o <|> last_mark digits) none) ∙ is) in
-          both last.0 (front ∙ ap (λ d. codes "m" ++ d) (before_M digits last.0 last.1)) (group_found below last.0 true mark last.2)
+          both last.0 (prefix ∙ ap (λ d. codes "m" ++ d) (before_M digits last.0 last.1)) (group_found below last.0 true mark last.2)
     ]
 
 pub mark_found : Values → (text : List ℕ) (mark : Mark) → mark_of text ≡ Some mark → IsMark text mark
@@ -138,20 +138,20 @@ begins_with_m text digits e = ap (λ t. bytes_eq t (codes "M")) e
 
 behind_there : (text digits : List ℕ) (mark : Mark) → text ≡ codes "m" ++ digits → behind_mark digits ≡ Some mark → mark_of text ≡ Some mark
 unfolding mark_of
-behind_there text digits mark front is =
+behind_there text digits mark prefix is =
     ap (λ (b : Bool). if b then Some (record { multiplexor = true; group = None }) else after_literal (codes "m") text >>= behind_mark)
-    (begins_with_m text digits front)
-    ∙ step (after_literal (codes "m") text) behind_mark digits (Some mark) (ap (after_literal (codes "m")) front ∙ behind_m digits) is
+    (begins_with_m text digits prefix)
+    ∙ step (after_literal (codes "m") text) behind_mark digits (Some mark) (ap (after_literal (codes "m")) prefix ∙ behind_m digits) is
 
 pub mark_there : Values → (text : List ℕ) (mark : Mark) → IsMark text mark → mark_of text ≡ Some mark
 unfolding mark_of
 mark_there below text mark (plain is mark_is) =
     ap (λ (b : Bool). if b then Some (record { multiplexor = true; group = None }) else after_literal (codes "m") text >>= behind_mark)
     ((bytes_eq-Decides text (codes "M")).1 is) ∙ ap Some (sym mark_is)
-mark_there below text mark (grouped digits front is) =
-    behind_there text digits mark front (ap (λ o. o <|> last_mark digits) (group_there below digits false mark is))
-mark_there below text mark (both digits front is) =
+mark_there below text mark (grouped digits prefix is) =
+    behind_there text digits mark prefix (ap (λ o. o <|> last_mark digits) (group_there below digits false mark is))
+mark_there below text mark (both digits prefix is) =
     let none = ap (option_map (group_mark false)) (not_number (digits ++ codes "M") (no_digits digits)) in
-    behind_there text (digits ++ codes "M") mark front (ap (λ o. o <|> last_mark (digits ++ codes "M")) none
+    behind_there text (digits ++ codes "M") mark prefix (ap (λ o. o <|> last_mark (digits ++ codes "M")) none
     ∙ step (without_last_M (digits ++ codes "M")) (λ d. option_map (group_mark true) (number_up_to Decimal small_limit d)) digits (Some mark)
     (there_M digits (digits ++ codes "M") refl) (group_there below digits true mark is))

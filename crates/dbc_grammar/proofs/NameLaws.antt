@@ -6,18 +6,18 @@ use Rattle.bench_model.specs.declared.database.Signal.{Signal}
 use Rattle.bench_model.specs.declared.database.Message.{Message}
 use Rattle.bench_model.specs.declared.database.Database.{Database}
 use Rattle.bench_model.specs.Rules.{KeepsRules}
-use Rattle.sig_text.specs.Spelling.{IsWord, IsSpelling}
+use Rattle.sig_text.specs.Lexemes.{IsWord, IsLexeme}
 use Rattle.sig_text.specs.Tokens.{IsToken, AreTokens}
 use Rattle.sig_text.specs.declared.token.TokenKind.{TokenKind}
 use Rattle.sig_text.specs.declared.token.Token.{Token}
 use Rattle.token_forms.specs.Names.{HasNames}
 use Rattle.token_forms.specs.Pieces.{token_text}
-use Rattle.token_forms.specs.Stands.{Each}
+use Rattle.token_forms.specs.Grammar.{Each}
 use Rattle.dbc_grammar.specs.declared.statement.Statement.{Statement}
 use Rattle.dbc_grammar.specs.declared.statement.Statement.TheVariants as statement
 use Rattle.dbc_grammar.specs.declared.statement.SignalForm.{SignalForm}
 use Rattle.dbc_grammar.specs.declared.statement.MessageForm.{MessageForm}
-use Rattle.dbc_grammar.specs.Statements.{Stands}
+use Rattle.dbc_grammar.specs.Statements.{Parses}
 use Rattle.dbc_grammar.specs.Forms.{statement_at}
 use Rattle.dbc_grammar.specs.Naming.{Noted, noted_in, independent, is_first_message}
 use Rattle.dbc_grammar.specs.Gather.{IsSignalAt, messages_in, messages_of, notes_of}
@@ -47,10 +47,10 @@ of_text : (text : List ℕ) (from : ℕ) (tokens : List Token) (to : ℕ) → Ar
 of_text text from [] to are = tt
 of_text text from (token ∷ tokens) to are = (are.1, of_text text token.end tokens to are.2)
 
--- what stands is found
+-- what is is found
 abbrev pub FoundStatements : Type 0
 FoundStatements = (text : List ℕ) (tokens : List Token) (s : Statement) (rest : List Token)
-    → (statement_at text tokens ≡ Some (s, rest)) ↔ Stands text s tokens rest
+    → (statement_at text tokens ≡ Some (s, rest)) ↔ Parses text s tokens rest
 
 statement_names : (text : List ℕ) (tokens : List Token) → Of text tokens
     → forms.IfFound (λ (found : Statement × List Token). NamesStatement text found.0 × Of text found.1) (statement_at text tokens)
@@ -58,7 +58,7 @@ statement_names text tokens of =
     forms.statement_of (Of text) (IsToken text) (inherited text) text tokens (forms.behind (Of text) (IsToken text) (inherited text) tokens of)
 
 run_names : FoundStatements → (text : List ℕ) (tokens : List Token) (statements : List Statement) (rest : List Token)
-    → Each (Stands text) statements tokens rest → Of text tokens → AllByRecursion (NamesStatement text) statements
+    → Each (Parses text) statements tokens rest → Of text tokens → AllByRecursion (NamesStatement text) statements
 run_names law text tokens [] rest each of = tt
 run_names law text tokens (s ∷ statements) rest (middle, part, later) of =
     let found = (law text tokens s middle).1 part in
@@ -90,10 +90,10 @@ messages_name text (s ∷ statements) names =
     rec-append (NamesMessage text) (messages_in s) (messages_of statements) (kept text s names.0) (messages_name text statements names.1)
 
 -- the names that they make
-word_spelled : (text name : List ℕ) (token : Token) → name ≡ token_text text token → IsWordToken (IsToken text) token → IsWord name
-word_spelled text name token is w =
-    let P : TokenKind → Type 0 = λ kind. IsSpelling kind (token_text text token) in
-    subst IsWord (sym is) (subst P w.kind w.there.spelled)
+word_lexeme : (text name : List ℕ) (token : Token) → name ≡ token_text text token → IsWordToken (IsToken text) token → IsWord name
+word_lexeme text name token is w =
+    let P : TokenKind → Type 0 = λ kind. IsLexeme kind (token_text text token) in
+    subst IsWord (sym is) (subst P w.kind w.there.lexeme)
 
 abbrev WordSignal : Signal → Type 0
 WordSignal s = IsWord s.name
@@ -110,7 +110,7 @@ signals_words text utf8 noted named m n [] [] names each = tt
 signals_words text utf8 noted named m n [] (s ∷ signals) names each = absurd each
 signals_words text utf8 noted named m n (f ∷ forms) [] names each = absurd each
 signals_words text utf8 noted named m n (f ∷ forms) (s ∷ signals) names each =
-    (word_spelled text s.name f.name each.0.name names.0, signals_words text utf8 noted named m (n + 1) forms signals names.1 each.1)
+    (word_lexeme text s.name f.name each.0.name names.0, signals_words text utf8 noted named m (n + 1) forms signals names.1 each.1)
 
 messages_words : (text : List ℕ) (utf8 : Bool) (noted : Noted) (all : List MessageForm) (n : ℕ) (forms : List MessageForm)
     (messages : List Message)
@@ -121,7 +121,7 @@ messages_words text utf8 noted all n [] (m ∷ messages) names each = absurd eac
 messages_words text utf8 noted all n (f ∷ forms) [] names each = absurd each
 messages_words text utf8 noted all n (f ∷ forms) (m ∷ messages) names each = (
   record {
-    message = word_spelled text m.name f.heading.name each.0.name names.0.message;
+    message = word_lexeme text m.name f.heading.name each.0.name names.0.message;
     signals = rec-all WordSignal m.signals
         (signals_words text utf8 noted (is_first_message all n f) f 0 f.signals m.signals names.0.signals each.0.signals);
   },
@@ -132,8 +132,8 @@ all_words : FoundStatements → (text : List ℕ) (d : Database) → IsDatabaseO
 all_words law text d is =
     let forms = messages_of is.statements in
     rec-all HasWords d.messages
-    (messages_words text is.gathered.utf8 (noted_in text (notes_of is.statements)) forms 0 forms d.messages
-    (messages_name text is.statements (statements_name law text is.statements is.are_statements)) is.gathered.messages)
+    (messages_words text is.build_database.utf8 (noted_in text (notes_of is.statements)) forms 0 forms d.messages
+    (messages_name text is.statements (statements_name law text is.statements is.are_statements)) is.build_database.messages)
 
 pub names_of_text : FoundStatements → (text : List ℕ) (d : Database) → IsDatabaseOf text d → KeepsRules d → HasNames d
 names_of_text law text d is keeps = λ k e h.

@@ -16,12 +16,12 @@ use Rattle.bench_model.specs.Check.{IsValid, IsFirstFault}
 use Rattle.sig_text.specs.declared.token.Token.{Token}
 use Rattle.sig_text.specs.declared.fault.LexFault.{LexFault}
 use Rattle.sig_text.specs.Tokens.{IsTokens, IsLexFault}
-use Rattle.token_forms.specs.Stands.{Each}
+use Rattle.token_forms.specs.Grammar.{Each}
 use Rattle.dbc_grammar.specs.declared.fault.DbcFault.{DbcFault}
 use Rattle.dbc_grammar.specs.declared.fault.DbcFault.TheVariants as faults
 use Rattle.dbc_grammar.specs.declared.statement.MessageForm.{MessageForm}
 use Rattle.dbc_grammar.specs.declared.statement.Statement.{Statement}
-use Rattle.dbc_grammar.specs.Statements.{Stands}
+use Rattle.dbc_grammar.specs.Statements.{Parses}
 use Rattle.dbc_grammar.specs.Naming.{Noted, noted_in, is_first_message}
 use Rattle.dbc_grammar.specs.Gather.{message_marks, message_links, messages_of, notes_of}
 use Rattle.dbc_grammar.specs.Contract.{IsMessageAt, HasSomeTree, IsFirstWide, IsFirstTreeless, all_signals, AreStatements, EndsEarly, Gathers, IsDatabaseOf, HasFault, IsFaultOrMemory}
@@ -78,7 +78,7 @@ nil_not_cons t later e = absurd cc
 pub not_early : OneReading → OneRun → (bytes : List ℕ) (statements : List Statement) (at : ℕ) → AreStatements bytes statements → ¬ EndsEarly bytes at
 not_early reading run bytes statements at are early =
     let same = reading bytes false are.tokens early.tokens are.are_tokens early.are_tokens in
-    let P : List Token → Type 0 = λ ts. Each (Stands bytes) statements ts [] in
+    let P : List Token → Type 0 = λ ts. Each (Parses bytes) statements ts [] in
     let b = early.broken in
     nil_not_cons b.token b.later
     (run bytes early.tokens statements b.found [] (b.token ∷ b.later) (subst P same are.all) b.each).1
@@ -90,16 +90,16 @@ never_both once tree reading run lex treeless rule bytes d (faults.Lex fault) is
 never_both once tree reading run lex treeless rule bytes d (faults.Statement at) is has = not_early reading run bytes is.statements at is.are_statements has
 never_both once tree reading run lex treeless rule bytes d (faults.Scale at) is has =
     let same = one_statements reading run bytes has.statements is.statements has.are_statements is.are_statements in
-    no_wide bytes is.statements d at is.gathered
+    no_wide bytes is.statements d at is.build_database
     (subst (λ (s : List Statement). IsFirstWide bytes (all_signals (messages_of s)) at) same has.wide)
 never_both once tree reading run lex treeless rule bytes d (faults.Mux id name why) is has =
     let same = one_statements reading run bytes has.statements is.statements has.are_statements is.are_statements in
-    no_treeless treeless bytes is.statements d id name why is.gathered
+    no_treeless treeless bytes is.statements d id name why is.build_database
     (subst (λ (s : List Statement). IsFirstTreeless bytes (noted_in bytes (notes_of s)) (messages_of s) id name why) same has.treeless)
 never_both once tree reading run lex treeless rule bytes d (faults.Check fault) is has =
     let same = one_statements reading run bytes has.0 is.statements has.2 is.are_statements in
-    let gathered = subst (λ (s : List Statement). Gathers bytes s has.1) same has.3 in
-    let database = one_gathered once tree bytes is.statements has.1 d gathered is.gathered in
+    let build_database = subst (λ (s : List Statement). Gathers bytes s has.1) same has.3 in
+    let database = one_gathered once tree bytes is.statements has.1 d build_database is.build_database in
     rule d fault is.valid (subst (λ (e : Database). IsFirstFault e fault) database has.4)
 never_both once tree reading run lex treeless rule bytes d faults.Memory is has = has
 

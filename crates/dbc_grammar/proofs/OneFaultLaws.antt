@@ -17,13 +17,13 @@ use Rattle.sig_text.specs.declared.token.Token.{Token}
 use Rattle.sig_text.specs.declared.fault.LexFault.{LexFault}
 use Rattle.sig_text.specs.Tokens.{IsLexFault}
 use Rattle.token_forms.specs.Pieces.{token_text}
-use Rattle.token_forms.specs.Stands.{Each}
+use Rattle.token_forms.specs.Grammar.{Each}
 use Rattle.dbc_grammar.specs.declared.fault.DbcFault.{DbcFault}
 use Rattle.dbc_grammar.specs.declared.fault.DbcFault.TheVariants as faults
 use Rattle.dbc_grammar.specs.declared.statement.SignalForm.{SignalForm}
 use Rattle.dbc_grammar.specs.declared.statement.MessageForm.{MessageForm}
 use Rattle.dbc_grammar.specs.declared.statement.Statement.{Statement}
-use Rattle.dbc_grammar.specs.Statements.{Stands}
+use Rattle.dbc_grammar.specs.Statements.{Parses}
 use Rattle.dbc_grammar.specs.Naming.{Noted, noted_in, message_key, is_first_message}
 use Rattle.dbc_grammar.specs.Gather.{message_marks, message_links, messages_of, notes_of}
 use Rattle.dbc_grammar.specs.Contract.{AreStatements, EndsEarly, Gathers, IsDatabaseOf, HasFault, IsFaultOrMemory, HasScale, IsTooWideAt, IsFirstWide}
@@ -130,7 +130,7 @@ one_early below bytes a b p q =
     let tokens : p.tokens ≡ q.tokens = below.reading bytes false p.tokens q.tokens p.are_tokens q.are_tokens in
     let x = p.broken in
     let y = q.broken in
-    let P : List Token → Type 0 = λ ts. Each (Stands bytes) x.found ts (x.token ∷ x.later) in
+    let P : List Token → Type 0 = λ ts. Each (Parses bytes) x.found ts (x.token ∷ x.later) in
     let rest = (below.run bytes q.tokens x.found y.found (x.token ∷ x.later) (y.token ∷ y.later)
     (subst P tokens x.each) y.each).1 in
     x.place ∙ ap (λ (t : Token). t.at) (head_same x.token y.token x.later y.later rest) ∙ sym y.place

@@ -1,4 +1,4 @@
--- A form that finds exactly what stands, and how such forms are joined: one behind another, one or none, as many as there are.
+-- A form that finds exactly what is, and how such forms are joined: one behind another, one or none, as many as there are.
 use Rattle.std.proofs.Common.{◌≡◌, ◌∙◌, sym, ap, subst, refl, arith, ℕ, suc, ◌+◌, ◌⊎◌, inl, inr, Bool, true, false, List, [], ◌∷◌, drop}
 use Rattle.std.specs.Prelude.{Option, Some, None, ◌↔◌, IsTrue}
 use Rattle.std.proofs.lemmas.Option.{none-some}
@@ -8,7 +8,7 @@ use Rattle.token_forms.specs.declared.numbers.SignedNumber.{SignedNumber}
 use Rattle.token_forms.specs.Pieces.{literal_at, word_at, string_at}
 use Rattle.token_forms.specs.Numbers.{whole_at, digits_at, signed_at}
 use Rattle.token_forms.specs.Runs.{Form, TakesTokens, AreRun, IsLongestRun, run_of}
-use Rattle.token_forms.specs.Stands.{Any, Lacks, Optional, Each, One, AllOf, Quoted, IsWord, IsString, IsDigits, Whole, Signed}
+use Rattle.token_forms.specs.Grammar.{Any, Lacks, Optional, Each, One, AllOf, Quoted, IsWord, IsString, IsDigits, Whole, Signed}
 use Rattle.dbc_grammar.specs.Forms.{optional}
 use Rattle.dbc_grammar.specs.Passed.{pass}
 use Rattle.dbc_grammar.proofs.FormLaws.{IfFound}
@@ -52,7 +52,7 @@ pub none_or_some : {A : Type 0} (o : Option A) → (o ≡ None) ⊎ ((x : A) × 
 none_or_some None = inl refl
 none_or_some (Some x) = inr (x, refl)
 
--- a part that a form finds does not stand where the form finds none
+-- a part that a form finds is not where the form finds none
 pub lacks_part : (form : List Token → Option (List Token)) (Part : List Token → List Token → Type 0) → Ends form Part
     → (tokens : List Token) → form tokens ≡ None → Lacks Part tokens
 lacks_part form Part ends tokens none rest part = none-some rest (sym none ∙ ends.there tokens rest part)
@@ -183,8 +183,8 @@ pass_none p (token ∷ tokens) lacks = elim (either_bool (p token)) [
 pass_each : (p : Token → Bool) (tokens passed rest : List Token) → Each (One (λ token. IsTrue (p token))) passed tokens rest
     → pass p tokens ≡ rest
 pass_each p tokens [] rest (same, lacks) = ap (pass p) same ∙ pass_none p rest lacks
-pass_each p tokens (x ∷ passed) rest (between, (front, is), later) =
-    ap (pass p) front ∙ pass_step p x between is ∙ pass_each p between passed rest later
+pass_each p tokens (x ∷ passed) rest (between, (prefix, is), later) =
+    ap (pass p) prefix ∙ pass_step p x between is ∙ pass_each p between passed rest later
 
 pub pass_there : (p : Token → Bool) (tokens rest : List Token) → AllOf (λ token. IsTrue (p token)) tokens rest → pass p tokens ≡ rest
 pass_there p tokens rest all = pass_each p tokens all.0 rest all.1

@@ -45,9 +45,9 @@ pub next_row : (text : List ℕ) (utf8 : Bool) (noted : Noted) (forms : List Mes
     IsRowAt text utf8 noted forms (i, form) row × AllZip (IsRowAt text utf8 noted forms) (enumerate_from (i + 1) (drop (i + 1) forms)) left
 next_row text utf8 noted forms i form done ahead left row below there popped way =
     let R = IsRowAt text utf8 noted forms in
-    let front : drop i forms ≡ form ∷ drop (i + 1) forms =
+    let prefix : drop i forms ≡ form ∷ drop (i + 1) forms =
     drop-cons forms i form below ∙ ap (λ (m : MessageForm). m ∷ drop (suc i) forms) (sym there) ∙ ap (λ k. form ∷ drop k forms) (sym (add-one i)) in
-    let each = subst (λ xs. AllZip R (enumerate_from i xs) (row ∷ left)) front
+    let each = subst (λ xs. AllZip R (enumerate_from i xs) (row ∷ left)) prefix
     (subst (λ ys. AllZip R (enumerate_from i (drop i forms)) ys) popped way.rows) in
     (each.0, each.1)
 

@@ -19,12 +19,12 @@ use Rattle.sig_text.specs.Content.{content_of}
 use Rattle.sig_text.specs.declared.token.Token.{Token}
 use Rattle.sig_text.specs.Tokens.{IsTokens}
 use Rattle.token_forms.specs.Numbers.{signed_text}
-use Rattle.token_forms.specs.Stands.{Each}
+use Rattle.token_forms.specs.Grammar.{Each}
 use Rattle.dbc_grammar.specs.declared.statement.Note.{Note}
 use Rattle.dbc_grammar.specs.declared.statement.SignalForm.{SignalForm}
 use Rattle.dbc_grammar.specs.declared.statement.MessageForm.{MessageForm}
 use Rattle.dbc_grammar.specs.declared.statement.Statement.{Statement}
-use Rattle.dbc_grammar.specs.Statements.{Stands}
+use Rattle.dbc_grammar.specs.Statements.{Parses}
 use Rattle.dbc_grammar.specs.Naming.{Noted, noted_in, is_first_message}
 use Rattle.dbc_grammar.specs.Gather.{IsSignalOf, IsSignalAt, labels_in, messages_of, notes_of}
 use Rattle.dbc_grammar.specs.Contract.{AreStatements, IsMessageAt, Gathers, IsDatabaseOf}
@@ -39,7 +39,7 @@ OneReading = (text : List ℕ) (comments : Bool) (a b : List Token) → IsTokens
 
 abbrev pub OneRun : Type 0
 OneRun = (text : List ℕ) (tokens : List Token) (xs ys : List Statement) (rest left : List Token) →
-    Each (Stands text) xs tokens rest → Each (Stands text) ys tokens left → (xs ≡ ys) × (rest ≡ left)
+    Each (Parses text) xs tokens rest → Each (Parses text) ys tokens left → (xs ≡ ys) × (rest ≡ left)
 
 make_signal : List ℕ → ℕ → ℕ → Order → Bool → Bool → Coding → Signal
 make_signal name start size order signed float coding =
@@ -101,7 +101,7 @@ one_bool P false false f g = refl
 pub one_statements : OneReading → OneRun → (text : List ℕ) (a b : List Statement) → AreStatements text a → AreStatements text b → a ≡ b
 one_statements once run text a b sa sb =
     let tokens = once text false sa.tokens sb.tokens sa.are_tokens sb.are_tokens in
-    let P : List Token → Type 0 = λ ts. Each (Stands text) a ts [] in
+    let P : List Token → Type 0 = λ ts. Each (Parses text) a ts [] in
     (run text sb.tokens a b [] [] (subst P tokens sa.all) sb.all).0
 
 make_database : List Message → Database
@@ -123,4 +123,4 @@ pub one_database : OneScale → OneTree → OneReading → OneRun → (bytes : L
 one_database once tree reading run bytes d e id ie =
     let statements = one_statements reading run bytes id.statements ie.statements id.are_statements ie.are_statements in
     one_gathered once tree bytes ie.statements d e
-    (subst (λ (s : List Statement). Gathers bytes s d) statements id.gathered) ie.gathered
+    (subst (λ (s : List Statement). Gathers bytes s d) statements id.build_database) ie.build_database

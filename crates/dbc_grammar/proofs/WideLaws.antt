@@ -117,12 +117,12 @@ pub message_is_first : (text : List ℕ) (messages : List MessageForm) (i : ℕ)
     AreScaled text (all_signals (take i messages)) → IsWideFault text (get_or messages i d).signals fault → IsWideFault text (all_signals messages) fault
 message_is_first text messages i d (faults.Scale at) below scaled wide =
     let m = get_or messages i d in
-    let front = all_signals (take i messages) in
+    let prefix = all_signals (take i messages) in
     let back = all_signals (drop (i + 1) messages) in
-    let cut : all_signals messages ≡ front ++ (m.signals ++ back) =
+    let cut : all_signals messages ≡ prefix ++ (m.signals ++ back) =
     ap all_signals (cut_at messages i d below) ∙ flat_map-append (λ (x : MessageForm). x.signals) (take i messages) (m ∷ drop (i + 1) messages) in
     subst (λ (l : List SignalForm). IsFirstWide text l at) (sym cut)
-    (first_behind text front (m.signals ++ back) at scaled (wide.0, first_before text m.signals back wide.0 at wide.1))
+    (first_behind text prefix (m.signals ++ back) at scaled (wide.0, first_before text m.signals back wide.0 at wide.1))
 message_is_first text messages i d faults.Memory below scaled wide = tt
 message_is_first text messages i d (faults.Lex fault) below scaled wide = wide
 message_is_first text messages i d (faults.Statement at) below scaled wide = wide

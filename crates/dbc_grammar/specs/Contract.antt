@@ -14,14 +14,14 @@ use Rattle.bench_model.specs.Check.{IsValid, IsFirstFault}
 use Rattle.sig_text.specs.declared.token.Token.{Token}
 use Rattle.sig_text.specs.Tokens.{IsTokens, IsLexFault}
 use Rattle.token_forms.specs.Pieces.{token_text}
-use Rattle.token_forms.specs.Stands.{Each, BreaksAt}
+use Rattle.token_forms.specs.Grammar.{Each, BreaksAt}
 use Rattle.dbc_grammar.specs.declared.fault.DbcFault.{DbcFault}
 use Rattle.dbc_grammar.specs.declared.fault.DbcFault.TheVariants as faults
 use Rattle.dbc_grammar.specs.declared.statement.Statement.{Statement}
 use Rattle.dbc_grammar.specs.declared.statement.SignalForm.{SignalForm}
 use Rattle.dbc_grammar.specs.declared.statement.MessageForm.{MessageForm}
 use Rattle.dbc_grammar.specs.Limits.{first_long_id}
-use Rattle.dbc_grammar.specs.Statements.{Stands}
+use Rattle.dbc_grammar.specs.Statements.{Parses}
 use Rattle.dbc_grammar.specs.Naming.{Noted, noted_in, message_key, is_first_message}
 use Rattle.dbc_grammar.specs.Gather.{messages_of, notes_of, IsScaleOf, IsTooWide, AreSignalsOf, message_links, message_marks}
 
@@ -29,13 +29,13 @@ use Rattle.dbc_grammar.specs.Gather.{messages_of, notes_of, IsScaleOf, IsTooWide
 pub record AreStatements (text : List ℕ) (statements : List Statement) : Type 0 where
   pub tokens : List Token
   pub are_tokens : IsTokens text false tokens
-  pub all : Each (Stands text) statements tokens []
+  pub all : Each (Parses text) statements tokens []
 
 -- the text has tokens, and this is the first token after its longest run of whole statements
 pub record EndsEarly (text : List ℕ) (at : ℕ) : Type 0 where
   pub tokens : List Token
   pub are_tokens : IsTokens text false tokens
-  pub broken : BreaksAt (Stands text) tokens at
+  pub broken : BreaksAt (Parses text) tokens at
 
 -- the signals of all messages, in file order
 abbrev pub all_signals : List MessageForm → List SignalForm
@@ -80,7 +80,7 @@ pub record Gathers (text : List ℕ) (statements : List Statement) (d : Database
 pub record IsDatabaseOf (bytes : List ℕ) (d : Database) : Type 0 where
   pub statements : List Statement
   pub are_statements : AreStatements bytes statements
-  pub gathered : Gathers bytes statements d
+  pub build_database : Gathers bytes statements d
   pub valid : IsValid d
 
 pub record IsScaleFault (bytes : List ℕ) (at : ℕ) : Type 0 where

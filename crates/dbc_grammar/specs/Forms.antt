@@ -1,4 +1,4 @@
--- The statements of the DBC format as forms over tokens, as the readers find them: what stands at the front of the tokens,
+-- The statements of the DBC format as forms over tokens, as the readers find them: what is at the front of the tokens,
 -- and the tokens after it. A law says that they find exactly what `Statements` says.
 use Rattle.std.specs.Prelude.{ℕ, ◌-◌, ◌==◌, ◌||◌, ◌&&◌, Bool, true, false, List, length, take, slice_index, Option, Some, None, codes, nat_le, nat_lt, if◌then◌else◌}
 use Rattle.std.specs.Option.{option_map}

@@ -1,12 +1,12 @@
 -- What reading keeps of statements.
 use Rattle.std.specs.Prelude.{◌≡◌, ℕ, List, [], ◌++◌}
 use Rattle.sig_text.specs.declared.token.Token.{Token}
-use Rattle.token_forms.specs.Stands.{Each, BreaksAt}
+use Rattle.token_forms.specs.Grammar.{Each, BreaksAt}
 use Rattle.dbc_grammar.specs.declared.fault.DbcFault.{DbcFault}
 use Rattle.dbc_grammar.specs.declared.fault.DbcFault.TheVariants as faults
 use Rattle.dbc_grammar.specs.declared.statement.Statement.{Statement}
 use Rattle.dbc_grammar.specs.declared.statements.Kept.{Kept}
-use Rattle.dbc_grammar.specs.Statements.{Stands}
+use Rattle.dbc_grammar.specs.Statements.{Parses}
 use Rattle.dbc_grammar.specs.Gather.{messages_in, notes_in, messages_of, notes_of}
 
 -- one more statement is kept
@@ -17,7 +17,7 @@ pub record IsKeptWith (statement : Statement) (old new : Kept) : Type 0 where
 -- this is what is kept of the longest run of whole statements, and these tokens are left
 pub record IsKeptBefore (text : List ℕ) (tokens : List Token) (kept : Kept) (rest : List Token) : Type 0 where
   pub statements : List Statement
-  pub all : Each (Stands text) statements tokens rest
+  pub all : Each (Parses text) statements tokens rest
   pub messages : kept.messages.items ≡ messages_of statements
   pub notes : kept.notes.items ≡ notes_of statements
 
@@ -27,7 +27,7 @@ IsKeptOf text tokens kept = IsKeptBefore text tokens kept []
 
 -- the fault names the first token after the longest run of whole statements; memory may run out
 abbrev pub StopsAt : List ℕ → List Token → DbcFault → Type 0
-StopsAt text tokens (faults.Statement at) = BreaksAt (Stands text) tokens at
+StopsAt text tokens (faults.Statement at) = BreaksAt (Parses text) tokens at
 StopsAt text tokens faults.Memory = Unit {0}
 StopsAt text tokens (faults.Lex fault) = ⊥
 StopsAt text tokens (faults.Scale at) = ⊥

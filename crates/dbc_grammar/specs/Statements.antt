@@ -1,6 +1,6 @@
 -- The statements of the DBC format (Vector Informatik, "DBC File Format Documentation") as relations between tokens, a
 -- statement and the tokens after it: one for each row of its table, of parts one behind another. Statements of which
--- nothing is kept say no more than that they stand there.
+-- nothing is kept say no more than that they are there.
 use Rattle.std.specs.Prelude.{◌≡◌, ℕ, ◌≤◌, ◌⊎◌, IsTrue, Bool, true, false, List, [], ◌∷◌, ◌++◌, Some, None, codes}
 use Rattle.byte_forms.specs.declared.numerals.Radix.TheVariants.{Decimal}
 use Rattle.multiplex_tree.specs.declared.mark.Mark.{Mark}
@@ -9,7 +9,7 @@ use Rattle.bench_model.specs.declared.database.Order.{Order}
 use Rattle.bench_model.specs.declared.database.Order.TheVariants.{Intel, Motorola}
 use Rattle.sig_text.specs.declared.token.Token.{Token}
 use Rattle.token_forms.specs.Pieces.{token_text}
-use Rattle.token_forms.specs.Stands.{◌▸◌, Any, Lacks, Optional, Each, One, AllOf, Quoted, IsWord, IsString, HasValue, IsDigits, Whole, Signed}
+use Rattle.token_forms.specs.Grammar.{◌▸◌, Any, Lacks, Optional, Each, One, AllOf, Quoted, IsWord, IsString, HasValue, IsDigits, Whole, Signed}
 use Rattle.dbc_grammar.specs.declared.statement.Statement.{Statement}
 use Rattle.dbc_grammar.specs.declared.statement.Statement.TheVariants as statement
 use Rattle.dbc_grammar.specs.declared.statement.Says.{Says}
@@ -70,8 +70,8 @@ Other text =
 -- ---- notes on signals
 
 -- a signed number and a Str
-abbrev pub StandsText : List ℕ → ValueText → List Token → List Token → Type 0
-StandsText text v = Signed text v.number ▸ One IsString v.text
+abbrev pub ParsesText : List ℕ → ValueText → List Token → List Token → Type 0
+ParsesText text v = Signed text v.number ▸ One IsString v.text
 
 -- the word of a statement, the identifier of a message and the name of its signal
 abbrev pub Named : List ℕ → List ℕ → ℕ → Token → List Token → List Token → Type 0
@@ -80,7 +80,7 @@ Named text word id name = Quoted text word ▸ Small text id ▸ One IsWord name
 -- VAL_ id Word (number Str)* ;
 abbrev pub SignalTexts : List ℕ → ℕ → Token → List ValueText → List Token → List Token → Type 0
 SignalTexts text id signal texts =
-    Named text (codes "VAL_") id signal ▸ Each (StandsText text) texts ▸ Quoted text (codes ";")
+    Named text (codes "VAL_") id signal ▸ Each (ParsesText text) texts ▸ Quoted text (codes ";")
 
 -- SIG_VALTYPE_ id Word :? type ;
 abbrev pub ValueType : List ℕ → ℕ → Token → ℕ → List Token → List Token → Type 0
@@ -89,39 +89,39 @@ ValueType text id signal kind =
     ▸ Quoted text (codes ";")
 
 -- low - high
-abbrev pub StandsRange : List ℕ → Range → List Token → List Token → Type 0
-StandsRange text range =
+abbrev pub ParsesRange : List ℕ → Range → List Token → List Token → Type 0
+ParsesRange text range =
     Whole text last_range_value range.low ▸ Quoted text (codes "-") ▸ Whole text last_range_value range.high
 
 -- range (, range)*
 abbrev pub NextRange : List ℕ → Range → List Token → List Token → Type 0
-NextRange text range = Quoted text (codes ",") ▸ StandsRange text range
+NextRange text range = Quoted text (codes ",") ▸ ParsesRange text range
 
 abbrev pub Ranges : List ℕ → List Range → List Token → List Token → Type 0
 Ranges text [] tokens rest = ⊥
-Ranges text (range ∷ ranges) tokens rest = (StandsRange text range ▸ Each (NextRange text) ranges) tokens rest
+Ranges text (range ∷ ranges) tokens rest = (ParsesRange text range ▸ Each (NextRange text) ranges) tokens rest
 
 -- SG_MUL_VAL_ id Word Word range (, range)* ;
 abbrev pub Multiplexing : List ℕ → ℕ → Token → Token → List Range → List Token → List Token → Type 0
 Multiplexing text id signal multiplexor ranges =
     Named text (codes "SG_MUL_VAL_") id signal ▸ One IsWord multiplexor ▸ Ranges text ranges ▸ Quoted text (codes ";")
 
-abbrev pub StandsSaid : List ℕ → ℕ → Token → Says → List Token → List Token → Type 0
-StandsSaid text id signal (says.Texts texts) = SignalTexts text id signal texts
-StandsSaid text id signal (says.Type kind) = ValueType text id signal kind
-StandsSaid text id signal (says.Below multiplexor ranges) = Multiplexing text id signal multiplexor ranges
+abbrev pub ParsesSaid : List ℕ → ℕ → Token → Says → List Token → List Token → Type 0
+ParsesSaid text id signal (says.Texts texts) = SignalTexts text id signal texts
+ParsesSaid text id signal (says.Type kind) = ValueType text id signal kind
+ParsesSaid text id signal (says.Below multiplexor ranges) = Multiplexing text id signal multiplexor ranges
 
-abbrev pub StandsNote : List ℕ → Note → List Token → List Token → Type 0
-StandsNote text note = StandsSaid text note.id note.signal note.says
+abbrev pub ParsesNote : List ℕ → Note → List Token → List Token → Type 0
+ParsesNote text note = ParsesSaid text note.id note.signal note.says
 
 -- ---- value texts of which nothing is kept
 
 -- VAL_ Word (number Str)* ; which names an environment variable
 abbrev pub VariableTexts : List ℕ → List Token → List Token → Type 0
 VariableTexts text =
-    Quoted text (codes "VAL_") ▸ Any (One IsWord) ▸ Any (Each (StandsText text)) ▸ Quoted text (codes ";")
+    Quoted text (codes "VAL_") ▸ Any (One IsWord) ▸ Any (Each (ParsesText text)) ▸ Quoted text (codes ";")
 
--- where neither those of a signal nor those of a variable stand: VAL_ , any tokens but ; and statement words, ;
+-- where neither those of a signal nor those of a variable are: VAL_ , any tokens but ; and statement words, ;
 abbrev pub LenientTexts : List ℕ → List Token → List Token → Type 0
 LenientTexts text tokens rest =
     (Quoted text (codes "VAL_") ▸ AllOf (λ token. IsTrue (is_before_statement text token)) ▸ Quoted text (codes ";")) tokens rest
@@ -142,7 +142,7 @@ pub data IsMark (text : List ℕ) (mark : Mark) : Type 0 where
   grouped : (digits : List ℕ) → text ≡ codes "m" ++ digits → IsGroupMark digits false mark → IsMark text mark
   both : (digits : List ℕ) → text ≡ codes "m" ++ digits ++ codes "M" → IsGroupMark digits true mark → IsMark text mark
 
--- a Word that is a mark, or none where no Word stands
+-- a Word that is a mark, or none where no Word is
 abbrev pub no_mark : Mark
 no_mark = record { multiplexor = false; group = None }
 
@@ -161,14 +161,14 @@ sign_of false = codes "+"
 sign_of true = codes "-"
 
 -- start | size @ order sign
-abbrev pub StandsPlace : List ℕ → Place → List Token → List Token → Type 0
-StandsPlace text p =
+abbrev pub ParsesPlace : List ℕ → Place → List Token → List Token → Type 0
+ParsesPlace text p =
     Small text p.start ▸ Quoted text (codes "|") ▸ Small text p.size ▸ Quoted text (codes "@")
     ▸ Quoted text (order_digit p.order) ▸ Quoted text (sign_of p.signed)
 
 -- ( factor , offset )
-abbrev pub StandsScaling : List ℕ → Scaling → List Token → List Token → Type 0
-StandsScaling text s =
+abbrev pub ParsesScaling : List ℕ → Scaling → List Token → List Token → Type 0
+ParsesScaling text s =
     Quoted text (codes "(") ▸ Signed text s.factor ▸ Quoted text (codes ",") ▸ Signed text s.offset ▸ Quoted text (codes ")")
 
 -- [ min | max ], which is not kept
@@ -192,10 +192,10 @@ place_of_first (token ∷ rest) = token.at
 abbrev pub SignalHead : List ℕ → Token → Mark → List Token → List Token → Type 0
 SignalHead text name mark = Quoted text (codes "SG_") ▸ One IsWord name ▸ OptionalMark text mark ▸ Quoted text (codes ":")
 
-abbrev pub StandsSignal : List ℕ → SignalForm → List Token → List Token → Type 0
-StandsSignal text s tokens rest =
+abbrev pub ParsesSignal : List ℕ → SignalForm → List Token → List Token → Type 0
+ParsesSignal text s tokens rest =
     (s.at ≡ place_of_first tokens)
-    × (SignalHead text s.name s.mark ▸ StandsPlace text s.place ▸ StandsScaling text s.scaling ▸ Limits text ▸ One IsString s.unit
+    × (SignalHead text s.name s.mark ▸ ParsesPlace text s.place ▸ ParsesScaling text s.scaling ▸ Limits text ▸ One IsString s.unit
     ▸ Receivers text) tokens rest
 
 -- an identifier of 11 bits, or of 29 bits with bit 31 set
@@ -203,15 +203,15 @@ abbrev pub IsIdentifier : ℕ → Type 0
 IsIdentifier id = (id ≤ last_short_id) ⊎ (first_long_id ≤ id)
 
 -- BO_ id Word : length Word
-abbrev pub StandsHeading : List ℕ → Heading → List Token → List Token → Type 0
-StandsHeading text h tokens rest =
+abbrev pub ParsesHeading : List ℕ → Heading → List Token → List Token → Type 0
+ParsesHeading text h tokens rest =
     IsIdentifier h.id
     × (Quoted text (codes "BO_") ▸ Small text h.id ▸ One IsWord h.name ▸ Quoted text (codes ":") ▸ Small text h.byte_count
     ▸ Any (One IsWord)) tokens rest
 
 -- a message, and the signals directly below it
-abbrev pub StandsMessage : List ℕ → MessageForm → List Token → List Token → Type 0
-StandsMessage text m = StandsHeading text m.heading ▸ Each (StandsSignal text) m.signals
+abbrev pub ParsesMessage : List ℕ → MessageForm → List Token → List Token → Type 0
+ParsesMessage text m = ParsesHeading text m.heading ▸ Each (ParsesSignal text) m.signals
 
 -- ---- statements
 
@@ -225,8 +225,8 @@ pub data Passed (text : List ℕ) (tokens rest : List Token) : Type 0 where
   lenient : LenientTexts text tokens rest → Passed text tokens rest
   other : Other text tokens rest → Passed text tokens rest
 
--- the statement stands at the front of the tokens, and these tokens are left
-abbrev pub Stands : List ℕ → Statement → List Token → List Token → Type 0
-Stands text (statement.Message m) = StandsMessage text m
-Stands text (statement.Noted note) = StandsNote text note
-Stands text statement.Unkept = Passed text
+-- the statement is at the front of the tokens, and these tokens are left
+abbrev pub Parses : List ℕ → Statement → List Token → List Token → Type 0
+Parses text (statement.Message m) = ParsesMessage text m
+Parses text (statement.Noted note) = ParsesNote text note
+Parses text statement.Unkept = Passed text

@@ -1,4 +1,4 @@
--- What a reader found, with what stands behind the references.
+-- What a reader found, with what is behind the references.
 use Rattle.std.specs.Prelude.{ℕ, List, Option, Some, None}
 use Rattle.std.specs.Borrow.{Bor}
 use Rattle.sig_text.specs.declared.token.Token.{Token}

@@ -8,17 +8,17 @@ ghost use Rattle.dbc_grammar.specs.declared.fault.DbcFault.{DbcFault};
 ghost use Rattle.sig_text.specs.declared.token.Token.{Token};
 ghost use Rattle.token_forms.specs.Names.{HasNames};
 ghost use Rattle.token_forms.specs.Runs.{run_of};
-ghost use Rattle.token_forms.specs.Stands.{Each};
+ghost use Rattle.token_forms.specs.Grammar.{Each};
 ghost use Rattle.dbc_grammar.specs.declared.statement.Statement.{Statement as AnyStatement};
 ghost use Rattle.dbc_grammar.specs.Forms.{statement_at};
-ghost use Rattle.dbc_grammar.specs.Statements.{Stands};
+ghost use Rattle.dbc_grammar.specs.Statements.{Parses};
 ghost use Rattle.dbc_grammar.specs.Contract.{IsDatabaseOf, HasFault};
 
 use crate::statement::{SignalForm, Statement, ValueText};
 use bench_model::{valid_keeps_rules, verdict_is_unique};
 use multiplex_tree::{Range, resolution_is_unique, trees_of_marks};
 use sig_text::{Token, reading_is_unique};
-use token_forms::{forms_find_what_stands, one_longest_run, one_scale_or_none};
+use token_forms::{forms_find_what_parses, one_longest_run, one_scale_or_none};
 
 /// Bytes have one database at most or one fault at most, and never both.
 pub fn database_is_unique()
@@ -55,12 +55,12 @@ pub fn one_database_or_one_fault()
     database_is_unique();
 }
 
-/// The statements that are read of tokens stand at their front one behind another, as many as there are, and no others do.
+/// The statements that are read of tokens are at their front one behind another, as many as there are, and no others do.
 pub fn statements_are_the_longest_run()
     ensures longest { (text : List ℕ) (tokens : List Token) →
-        Each (Stands text) (run_of (statement_at text) tokens).0 tokens (run_of (statement_at text) tokens).1 }
+        Each (Parses text) (run_of (statement_at text) tokens).0 tokens (run_of (statement_at text) tokens).1 }
     ensures only { (text : List ℕ) (tokens : List Token) (xs ys : List AnyStatement) (rest left : List Token) →
-        Each (Stands text) xs tokens rest → Each (Stands text) ys tokens left → (xs ≡ ys) × (rest ≡ left) }
+        Each (Parses text) xs tokens rest → Each (Parses text) ys tokens left → (xs ≡ ys) × (rest ≡ left) }
 {
     forms_are_statements();
     one_longest_run::<Statement>();
@@ -74,12 +74,12 @@ pub fn names_are_words()
     valid_keeps_rules();
 }
 
-/// The statement that a form finds at the front of the tokens is the one that stands there, and what stands there is found.
+/// The statement that a form finds at the front of the tokens is the one that is there, and what is there is found.
 pub fn forms_are_statements()
     ensures { (text : List ℕ) (tokens : List Token) (statement : AnyStatement) (rest : List Token) →
-        (statement_at text tokens ≡ Some (statement, rest)) ↔ Stands text statement tokens rest }
+        (statement_at text tokens ≡ Some (statement, rest)) ↔ Parses text statement tokens rest }
 {
-    forms_find_what_stands();
+    forms_find_what_parses();
     one_longest_run::<SignalForm>();
     one_longest_run::<ValueText>();
     one_longest_run::<Range>();

@@ -49,7 +49,7 @@ fn is_passed(sort: Passed, bytes: &[u8], token: Token) -> bool
     }
 }
 
-/// How many tokens of the sort stand at the front.
+/// How many tokens of the sort are at the front.
 fn passed_len(sort: Passed, bytes: &[u8], tokens: &[Token]) -> usize
     ensures value { result ≡ prefix_len (is_passed sort bytes.now) tokens.now }
     ensures within { result ≤ length tokens.now }

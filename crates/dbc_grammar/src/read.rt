@@ -154,7 +154,7 @@ fn is_utf8(bytes: &[u8]) -> bool
 }
 
 /// The database that statements make.
-fn gathered(alloc: Global, bytes: &[u8], kept: Kept) -> Result<Valid, DbcFault>
+fn build_database(alloc: Global, bytes: &[u8], kept: Kept) -> Result<Valid, DbcFault>
     ensures ok { (tokens : List Token) → IsKeptOf bytes.now tokens kept → IsTokens bytes.now false tokens →
         IfOk result (λ valid. IsDatabaseOf bytes.now valid.database) }
     ensures fault { (tokens : List Token) → IsKeptOf bytes.now tokens kept → IsTokens bytes.now false tokens →
@@ -208,5 +208,5 @@ fn read_text(alloc: Global, bytes: &[u8]) -> Result<Valid, DbcFault>
         Ok(kept) => kept,
         Err(fault) => return Err(fault),
     };
-    gathered(alloc, bytes, kept)
+    build_database(alloc, bytes, kept)
 }

@@ -203,7 +203,7 @@ fn signal_head_at<'a>(bytes: &[u8], tokens: &'a [Token]) -> Option<(Token, Mark,
     Some((name, mark, rest))
 }
 
-/// Where the first token stands.
+/// Where the first token is.
 pub fn place_of_first(tokens: &[Token]) -> usize
     ensures { result ≡ place_of_first tokens.now }
 {

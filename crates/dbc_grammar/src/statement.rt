@@ -5,7 +5,7 @@ use multiplex_tree::{List, Mark, Range};
 use sig_text::Token;
 use token_forms::SignedNumber;
 
-/// Where a signal's bits stand, and how they count.
+/// Where a signal's bits are, and how they count.
 #[derive(Clone, Copy, Debug, PartialEq, Eq)]
 pub struct Place {
     pub start: u32,

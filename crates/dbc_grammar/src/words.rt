@@ -71,7 +71,7 @@ fn is_form_word(text: &[u8]) -> bool
     is_among(text, &FORM_WORDS)
 }
 
-/// Whether the text begins a statement that is not kept, whatever stands in it.
+/// Whether the text begins a statement that is not kept, whatever is in it.
 #[tactic(auto, unfolding(crate::specs::Words::unkept_words))]
 pub fn is_unkept_word(text: &[u8]) -> bool
     ensures { result ≡ is_among text.now unkept_words }

@@ -13,7 +13,7 @@ read_after_set P xs i j y d within here there =
       | inr e ↦ subst P (sym (get_or-set_other xs i j y d e.1)) (there e.1)
     ]
 
--- an element that is not the default stands in the list
+-- an element that is not the default is in the list
 pub is_within : {X : Type 0} (xs : List X) (i : ℕ) (x d : X) → get_or xs i d ≡ x → x ≢ d → i < length xs
 is_within xs i x d is other =
     elim (leb_tells (length xs) i) as (λ _. i < length xs) [

@@ -3,7 +3,7 @@
 ghost use Rattle.std.specs.Prelude.{◌≡◌};
 ghost use Rattle.epoch_core.specs.Steps.{loaded_epoch};
 
-/// Where a lane stands between its load of an epoch and the end of its reads.
+/// Where a lane is between its load of an epoch and the end of its reads.
 #[derive(Clone, Copy, Debug, PartialEq, Eq)]
 pub enum LaneState {
     /// It reads nothing, and its pin is 0.

@@ -2,7 +2,7 @@
 //! announce an epoch in their pins and read. It is epoch-based reclamation after Fraser ("Practical lock-freedom", 2004): a
 //! region is written again only when no lane can still hold it.
 //!
-//! It stands on std alone and starts no thread. The store of the regions, `region_store`, shows a state of this
+//! It builds on std alone and starts no thread. The store of the regions, `region_store`, shows a state of this
 //! machine, and each of its atomic steps is proved by the step of the same kind here.
 //!
 //! Why a pin of 0, or one above the retirement's epoch plus 1, clears a lane for a region. A lane stores its pin

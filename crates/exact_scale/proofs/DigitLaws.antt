@@ -1,4 +1,4 @@
--- What decimal digits spell, and how many there are.
+-- What decimal digits denote, and how many there are.
 use Rattle.std.proofs.Common.{◌≡◌, ℕ, zero, suc, ◌+◌, ◌-◌, ◌*◌, ◌/◌, ◌%◌, ◌^◌, ◌<◌, ◌≤◌, List, [], ◌∷◌, ◌++◌, length, cond, map, replicate, get_or, sym, ap, ◌∙◌, subst, refl, ⊎_elim, arith, append_assoc, length-append, mul-le-mul_right, pow-suc, zero-mul, zero-add, add-zero, mod-eq_of_lt, add-one}
 use Rattle.std.specs.Int.Digits.{digits_of}
 use Rattle.std.specs.Fmt.{decimal}
@@ -13,26 +13,26 @@ use borrow.Author.Tests.{ne_eqb}
 use Rattle.exact_scale.specs.Digits.{IsDigit, AllDigits, number, decimal_digits, last_digits}
 use Rattle.exact_scale.proofs.PowerLaws.{ten_pos, ten_le}
 
--- digits joined spell the first number, moved up, and the second
-pub number-append : (front back : List ℕ) → number (front ++ back) ≡ number front * 10 ^ length back + number back
+-- digits joined denote the first number, moved up, and the second
+pub number-append : (prefix back : List ℕ) → number (prefix ++ back) ≡ number prefix * 10 ^ length back + number back
 number-append [] back = sym (ap (λ n. n + number back) (zero-mul (10 ^ length back)) ∙ zero-add (number back))
-number-append (digit ∷ front) back =
+number-append (digit ∷ prefix) back =
     let d = digit - 48 in
-    let more = number-append front back in
-    let power : 10 ^ length (front ++ back) ≡ 10 ^ length front * 10 ^ length back = ap (λ n. 10 ^ n) (length-append front back) ∙ pow-add 10 (length front) (length back) in
-    ap (λ p. d * p + number (front ++ back)) power ∙ ap (λ n. d * (10 ^ length front * 10 ^ length back) + n) more ∙ omega arith
+    let more = number-append prefix back in
+    let power : 10 ^ length (prefix ++ back) ≡ 10 ^ length prefix * 10 ^ length back = ap (λ n. 10 ^ n) (length-append prefix back) ∙ pow-add 10 (length prefix) (length back) in
+    ap (λ p. d * p + number (prefix ++ back)) power ∙ ap (λ n. d * (10 ^ length prefix * 10 ^ length back) + n) more ∙ omega arith
 
 pub number_push : (digits : List ℕ) (d : ℕ) → number (digits ++ (48 + d) ∷ []) ≡ number digits * 10 + d
 number_push digits d = number-append digits ((48 + d) ∷ []) ∙ omega arith
 
-pub AllDigits-append : (front back : List ℕ) → AllDigits front → AllDigits back → AllDigits (front ++ back)
+pub AllDigits-append : (prefix back : List ℕ) → AllDigits prefix → AllDigits back → AllDigits (prefix ++ back)
 AllDigits-append [] back p q = q
-AllDigits-append (digit ∷ front) back p q = (p.0, AllDigits-append front back p.1 q)
+AllDigits-append (digit ∷ prefix) back p q = (p.0, AllDigits-append prefix back p.1 q)
 
 digit_value : (digit : ℕ) → IsDigit digit → digit - 48 + 1 ≤ 10
 digit_value digit h = omega (arith, h.0, h.1)
 
--- digits spell less than a one with as many zeros
+-- digits denote less than a one with as many zeros
 pub number_below : (digits : List ℕ) → AllDigits digits → number digits < 10 ^ length digits
 number_below [] all = omega (arith, pow-zero 10)
 number_below (digit ∷ digits) all =
@@ -66,10 +66,10 @@ decimal_digits_step n large =
 pub decimal_same : (n : ℕ) → n < 10 ^ 64 → decimal n ≡ decimal_digits n
 decimal_same =
     decimal_by_steps_wide (λ m digits. digits ≡ decimal_digits m) (λ m small. sym (decimal_digits_small m small))
-    (λ m digits large front. ap (λ ds. ds ++ (48 + m % 10) ∷ []) front ∙ sym (decimal_digits_step m large))
+    (λ m digits large prefix. ap (λ ds. ds ++ (48 + m % 10) ∷ []) prefix ∙ sym (decimal_digits_step m large))
 
-low_front : (places n : ℕ) → 10 ^ suc places ≤ n → 10 ^ places ≤ n / 10
-low_front places n low = le-div (10 ^ places) n 10 (omega arith) (omega (arith, pow-suc 10 places))
+low_prefix : (places n : ℕ) → 10 ^ suc places ≤ n → 10 ^ places ≤ n / 10
+low_prefix places n low = le-div (10 ^ places) n 10 (omega arith) (omega (arith, pow-suc 10 places))
 
 -- ---- the last digits of a number
 
@@ -82,8 +82,8 @@ pub last_digits_are_digits : (places n : ℕ) → AllDigits (last_digits places 
 last_digits_are_digits zero n = tt
 last_digits_are_digits (suc places) n = AllDigits-append _ _ (last_digits_are_digits places (n / 10)) ((omega arith, omega (arith, mod_below n 10 (omega arith))), tt)
 
-front_below : (places n : ℕ) → n < 10 ^ suc places → n / 10 < 10 ^ places
-front_below places n below = ⊎_elim (λ small. small)
+prefix_below : (places n : ℕ) → n < 10 ^ suc places → n / 10 < 10 ^ places
+prefix_below places n below = ⊎_elim (λ small. small)
     (λ big. absurd (omega (arith, mul-le-mul_right 10 big, div-add-mod' n 10, pow-suc 10 places)))
     (cases_lt (n / 10) (10 ^ places))
 
@@ -91,13 +91,13 @@ pub number_last_digits : (places n : ℕ) → n < 10 ^ places → number (last_d
 number_last_digits zero n below = omega (arith, pow-zero 10)
 number_last_digits (suc places) n below =
     number_push (last_digits places (n / 10)) (n % 10)
-    ∙ ap (λ front. front * 10 + n % 10) (number_last_digits places (n / 10) (front_below places n below))
+    ∙ ap (λ prefix. prefix * 10 + n % 10) (number_last_digits places (n / 10) (prefix_below places n below))
     ∙ div-add-mod' n 10
 
 last_digits_of_zero : (count : ℕ) → last_digits count 0 ≡ replicate count 48
 last_digits_of_zero zero = refl
 last_digits_of_zero (suc count) =
-    ap (λ front. front ++ 48 ∷ []) (last_digits_of_zero count) ∙ sym (replicate_next count 48) ∙ ap (λ n. replicate n 48) (add-one count)
+    ap (λ prefix. prefix ++ 48 ∷ []) (last_digits_of_zero count) ∙ sym (replicate_next count 48) ∙ ap (λ n. replicate n 48) (add-one count)
 
 -- zeros in front of a number that has fewer digits
 pub last_digits_padded : (count places n : ℕ) → n < 10 ^ places → last_digits (count + places) n ≡ replicate count 48 ++ last_digits places n
@@ -107,7 +107,7 @@ last_digits_padded count zero n below =
 last_digits_padded count (suc places) n below =
     let counted : count + suc places ≡ suc (count + places) = omega arith in
     ap (λ k. last_digits k n) counted
-    ∙ ap (λ front. front ++ (48 + n % 10) ∷ []) (last_digits_padded count places (n / 10) (front_below places n below))
+    ∙ ap (λ prefix. prefix ++ (48 + n % 10) ∷ []) (last_digits_padded count places (n / 10) (prefix_below places n below))
     ∙ append_assoc (replicate count 48) (last_digits places (n / 10)) ((48 + n % 10) ∷ [])
 
 -- all of a number's digits
@@ -116,7 +116,7 @@ decimal_digits_are_last zero n low high = decimal_digits_small n high ∙ ap (λ
 decimal_digits_are_last (suc places) n low high =
     let large : 10 ≤ n = omega (arith, pow-suc 10 places, ten_pos places) in
     decimal_digits_step n large
-    ∙ ap (λ digits. digits ++ (48 + n % 10) ∷ []) (decimal_digits_are_last places (n / 10) (low_front places n low) (front_below (suc places) n high))
+    ∙ ap (λ digits. digits ++ (48 + n % 10) ∷ []) (decimal_digits_are_last places (n / 10) (low_prefix places n low) (prefix_below (suc places) n high))
 
 pub digits_room : (places e n : ℕ) → 10 ^ e ≤ n → n < 10 ^ places → e + 1 ≤ places
 digits_room places e n low below = ⊎_elim (λ l. omega (arith, l)) (λ few. absurd (omega (arith, ten_le places e few))) (cases_lt e places)
@@ -156,7 +156,7 @@ first_not_zero : (ds : List ℕ) → 0 < get_or ds 0 0 → get_or (map (λ digit
 first_not_zero [] some e = omega arith
 first_not_zero (d ∷ ds) some e = omega arith
 
--- a leading zero stands alone
+-- a leading zero is alone
 pub leading_zero : (n : ℕ) → get_or (decimal_digits n) 0 0 ≡ 48 → length (decimal_digits n) ≡ 1
 leading_zero zero e = refl
 leading_zero (suc n) e = absurd (first_not_zero (digits_of 10 (suc n)) (first_digits_of 10 (suc n) (omega arith) (omega arith))
@@ -171,9 +171,9 @@ decimal_digits_shown (suc places) n below = ⊎_elim
     (λ small. let e = decimal_digits_small n small in (subst AllDigits (sym e) ((omega arith, omega arith), tt), ap number e ∙ omega (arith, pow-zero 10)))
     (λ large.
     let e = decimal_digits_step n large in
-    let front = decimal_digits_shown places (n / 10) (front_below places n below) in (
-      subst AllDigits (sym e) (AllDigits-append _ _ front.0 ((omega arith, omega (arith, mod_below n 10 (omega arith))), tt)),
-      ap number e ∙ number_push (decimal_digits (n / 10)) (n % 10) ∙ ap (λ f. f * 10 + n % 10) front.1 ∙ div-add-mod' n 10,
+    let prefix = decimal_digits_shown places (n / 10) (prefix_below places n below) in (
+      subst AllDigits (sym e) (AllDigits-append _ _ prefix.0 ((omega arith, omega (arith, mod_below n 10 (omega arith))), tt)),
+      ap number e ∙ number_push (decimal_digits (n / 10)) (n % 10) ∙ ap (λ f. f * 10 + n % 10) prefix.1 ∙ div-add-mod' n 10,
     ))
     (cases_lt n 10)
 

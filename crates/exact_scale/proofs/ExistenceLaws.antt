@@ -5,7 +5,7 @@ use Rattle.std.proofs.lemmas.Bool.{cases_eq, cases_lt}
 use Rattle.exact_scale.specs.Digits.{IsDigit, number}
 use Rattle.exact_scale.specs.Limits.{most_places, IsNarrow, IsTooWide}
 use Rattle.exact_scale.specs.Parts.{NoDigitFirst, SignSplit, DigitSplit, PointSplit, ExponentRead, NoExponent, SignedRead, NoSigned, capped}
-use Rattle.exact_scale.specs.Spelling.{NoSign, Plus, Minus, signed, fraction_digits, IsDecimalText, Denotes, raised, lowered}
+use Rattle.exact_scale.specs.Numeral.{NoSign, Plus, Minus, signed, fraction_digits, IsDecimalText, Denotes, raised, lowered}
 use Rattle.exact_scale.proofs.LeastLaws.{least_places, least_signed}
 use Rattle.exact_scale.proofs.PartsLaws.{point_taken, no_point, signed_down, signed_up, no_signed, exponent_read, no_exponent_after, no_exponent_other, has_parts, no_digits, bad_exponent}
 use Rattle.exact_scale.proofs.PowerLaws.{ten_times}
@@ -28,7 +28,7 @@ cut_least size k c j m e = ⊎_elim
     c.last
 
 pub denotes_some : (text : List ℕ) → IsDecimalText text → (n : ℤ) × ((k : ℕ) × Denotes text n k)
-denotes_some text (s, spelled) =
+denotes_some text (s, written_so) =
     let above = number (s.whole ++ fraction_digits s.fraction) * 10 ^ raised s.exponent in
     let places = length (fraction_digits s.fraction) + lowered s.exponent in
     let c = cut places above in (
@@ -36,8 +36,8 @@ denotes_some text (s, spelled) =
       (
         c.places,
         record {
-          spelling = s;
-          spelled = spelled;
+          numeral = s;
+          written_so = written_so;
           least = least_signed s.sign above (10 ^ places) c.short c.places (cut_same above places c) (cut_least above places c);
         },
       ),
@@ -64,7 +64,7 @@ digit_or_none b = ⊎_elim
     (cases_lt 57 b))
     (cases_lt b 48)
 
-digit_split : (text : List ℕ) → (front : List ℕ) × ((back : List ℕ) × DigitSplit text front back)
+digit_split : (text : List ℕ) → (prefix : List ℕ) × ((back : List ℕ) × DigitSplit text prefix back)
 digit_split [] = ([], ([], record { joined = refl; digits = tt; stop = tt }))
 digit_split (b ∷ bs) =
     let rest = digit_split bs in ⊎_elim
@@ -107,7 +107,7 @@ behind_mark after mark is_mark = ⊎_elim
     (signed_or_none after)
 
 exponent_or_none : (tail : List ℕ) → ((up : ℕ) × ((down : ℕ) × ExponentRead tail up down)) ⊎ NoExponent tail
-exponent_or_none [] = inl (0, (0, record { exponent = None; lawful = tt; joined = refl; upward = omega arith; downward = omega arith }))
+exponent_or_none [] = inl (0, (0, record { exponent = None; valid = tt; joined = refl; upward = omega arith; downward = omega arith }))
 exponent_or_none (mark ∷ after) = ⊎_elim
     (λ (small : mark ≡ 101). behind_mark after mark (inl small))
     (λ other. ⊎_elim
@@ -125,7 +125,7 @@ decimal_or_none text =
     (λ some. ⊎_elim
     (λ (e : (up : ℕ) × ((down : ℕ) × ExponentRead p.1.0 up down)).
     let parts = has_parts text s.1.0 d.0 d.1.0 p.0 p.1.0 s.0 e.0 e.1.0 s.1.1 d.1.1 p.1.1 e.1.1 (omega (arith, some)) in
-    inl (parts.spelling, parts.spelled))
+    inl (parts.numeral, parts.written_so))
     (λ none. inr (bad_exponent text s.1.0 d.0 d.1.0 p.0 p.1.0 s.0 s.1.1 d.1.1 p.1.1 none))
     (exponent_or_none p.1.0))
     (cases_eq (length d.0 + length p.0) 0)

@@ -1,10 +1,10 @@
--- The least power of ten over which a fraction stands.
+-- The least power of ten over which a fraction is.
 use Rattle.std.proofs.Common.{◌≡◌, ℕ, suc, ◌+◌, ◌-◌, ◌*◌, ◌^◌, ◌%◌, ◌<◌, ◌≤◌, sym, ap, ◌∙◌, ⊎_elim, arith, ℤ, pos, ◌*ℤ◌, le_antisymm}
 use Rattle.std.specs.Prelude.{unsigned_abs}
 use Rattle.std.proofs.lemmas.Int.{unsigned_abs-mul}
 use Rattle.std.proofs.lemmas.Bool.{cases_lt}
 use Rattle.exact_scale.specs.Fraction.{Fraction, IsLeastDecimal}
-use Rattle.exact_scale.specs.Spelling.{Sign, signed}
+use Rattle.exact_scale.specs.Numeral.{Sign, signed}
 use Rattle.exact_scale.proofs.PowerLaws.{ten_times, ten_moved, cancel_ten, last_digit}
 use Rattle.exact_scale.proofs.SignLaws.{signed_times, abs_signed, cancel_pos}
 

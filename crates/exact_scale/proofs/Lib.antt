@@ -8,6 +8,6 @@ pub mod ReadLaws
 pub mod ShortestLaws
 pub mod SignificandLaws
 pub mod SignLaws
-pub mod SpellingLaws
+pub mod NumeralLaws
 pub mod TextLaws
 pub mod ZeroLaws

@@ -5,9 +5,9 @@ use Rattle.std.proofs.Math.Seq.{drop-cons}
 use Rattle.std.proofs.lemmas.List.{take_more, take-append-drop, append-nil}
 use Rattle.exact_scale.specs.Digits.{IsDigit, AllDigits, number}
 use Rattle.exact_scale.specs.Parts.{NoDigitFirst, NoPointFirst, TakesSign, SignSplit, DigitSplit, PointSplit, ExponentRead, NoExponent, SignedRead, NoSigned, HasParts, is_minus, capped}
-use Rattle.exact_scale.specs.Spelling.{Sign, NoSign, Plus, Minus, sign_text, Spelling, fraction_digits, fraction_text, exponent_text, Spells, IsDecimalText, upward, downward}
+use Rattle.exact_scale.specs.Numeral.{Sign, NoSign, Plus, Minus, sign_text, Numeral, fraction_digits, fraction_text, exponent_text, IsTextOf, IsDecimalText, upward, downward}
 use Rattle.exact_scale.proofs.DigitLaws.{AllDigits-append}
-use Rattle.exact_scale.proofs.SpellingLaws.{Front, front_of, front_once, digits_once, sign_once, digits_take_sign, head_same, tail_same, SameParts}
+use Rattle.exact_scale.proofs.NumeralLaws.{Prefix, prefix_of, prefix_once, digits_once, sign_once, digits_take_sign, head_same, tail_same, SameParts}
 
 -- ---- digits in front
 
@@ -17,9 +17,9 @@ digits_more text i within all digit = subst AllDigits (sym (take_more text i 0 w
 pub stops_at : (text : List ℕ) (i : ℕ) → i < length text → (IsDigit (get_or text i 0) → ⊥) → NoDigitFirst (drop i text)
 stops_at text i within other = subst NoDigitFirst (sym (drop-cons text i 0 within)) other
 
-pub split_at_stop : (text front back : List ℕ) (i : ℕ) → i < length text → AllDigits (take i text) → (IsDigit (get_or text i 0) → ⊥) → front ≡ take i text → back ≡ drop i text → DigitSplit text front back
-split_at_stop text front back i within all other f b = record {
-  joined = sym (take-append-drop i text) ∙ ap (λ l. l ++ drop i text) (sym f) ∙ ap (λ l. front ++ l) (sym b);
+pub split_at_stop : (text prefix back : List ℕ) (i : ℕ) → i < length text → AllDigits (take i text) → (IsDigit (get_or text i 0) → ⊥) → prefix ≡ take i text → back ≡ drop i text → DigitSplit text prefix back
+split_at_stop text prefix back i within all other f b = record {
+  joined = sym (take-append-drop i text) ∙ ap (λ l. l ++ drop i text) (sym f) ∙ ap (λ l. prefix ++ l) (sym b);
   digits = subst AllDigits (sym f) all;
   stop = subst NoDigitFirst (sym b) (stops_at text i within other);
 }
@@ -37,9 +37,9 @@ drop_all (d ∷ text) zero past = absurd (omega arith)
 drop_all (d ∷ text) (suc i) past = drop_all text i (omega arith)
 
 -- all digits
-pub split_at_end : (text front back : List ℕ) (i : ℕ) → length text ≤ i → AllDigits (take i text) → front ≡ take (length text) text → back ≡ drop (length text) text → DigitSplit text front back
-split_at_end text front back i past all f b = record {
-  joined = sym (take-append-drop (length text) text) ∙ ap (λ l. l ++ drop (length text) text) (sym f) ∙ ap (λ l. front ++ l) (sym b);
+pub split_at_end : (text prefix back : List ℕ) (i : ℕ) → length text ≤ i → AllDigits (take i text) → prefix ≡ take (length text) text → back ≡ drop (length text) text → DigitSplit text prefix back
+split_at_end text prefix back i past all f b = record {
+  joined = sym (take-append-drop (length text) text) ∙ ap (λ l. l ++ drop (length text) text) (sym f) ∙ ap (λ l. prefix ++ l) (sym b);
   digits = subst AllDigits (take_all text i past ∙ sym (take_all text (length text) (omega arith)) ∙ sym f) all;
   stop = subst NoDigitFirst (sym (b ∙ drop_all text (length text) (omega arith))) tt;
 }
@@ -115,27 +115,27 @@ no_signed text unsigned digits rest negative s d fault sign ds all some e =
 pub exponent_read : (text after : List ℕ) (mark up down : ℕ) → text ≡ mark ∷ after → (mark ≡ 101) ⊎ (mark ≡ 69) → SignedRead after up down → ExponentRead text up down
 exponent_read text after mark up down e is_mark s = record {
   exponent = Some (record { mark = mark; sign = s.sign; digits = s.digits });
-  lawful = (is_mark, s.all, s.some_digit);
+  valid = (is_mark, s.all, s.some_digit);
   joined = e ∙ ap (λ l. mark ∷ l) s.joined;
   upward = s.upward;
   downward = s.downward;
 }
 
 pub no_exponent_after : (text after : List ℕ) (mark : ℕ) → text ≡ mark ∷ after → NoSigned after → NoExponent text
-no_exponent_after text after mark e none None lawful same = cc
-no_exponent_after text after mark e none (Some x) lawful same = none x.sign x.digits lawful.1 lawful.2 (tail_same (sym e ∙ same))
+no_exponent_after text after mark e none None valid same = cc
+no_exponent_after text after mark e none (Some x) valid same = none x.sign x.digits valid.1 valid.2 (tail_same (sym e ∙ same))
 
 pub no_exponent_other : (text after : List ℕ) (mark : ℕ) → text ≡ mark ∷ after → (mark ≡ 101 → ⊥) → (mark ≡ 69 → ⊥) → NoExponent text
-no_exponent_other text after mark e small large None lawful same = cc
-no_exponent_other text after mark e small large (Some x) lawful same =
+no_exponent_other text after mark e small large None valid same = cc
+no_exponent_other text after mark e small large (Some x) valid same =
     let head : mark ≡ x.mark = head_same (sym e ∙ same) in
-    ⊎_elim (λ m. small (head ∙ m)) (λ m. large (head ∙ m)) lawful.0
+    ⊎_elim (λ m. small (head ∙ m)) (λ m. large (head ∙ m)) valid.0
 
 -- ---- the parts together
 
-split_front : (text unsigned whole after digits tail : List ℕ) (negative : Bool) (s : SignSplit text negative unsigned) → DigitSplit unsigned whole after → (p : PointSplit after digits tail)
-    → Front text s.sign whole p.fraction tail
-split_front text unsigned whole after digits tail negative s d p =
+split_prefix : (text unsigned whole after digits tail : List ℕ) (negative : Bool) (s : SignSplit text negative unsigned) → DigitSplit unsigned whole after → (p : PointSplit after digits tail)
+    → Prefix text s.sign whole p.fraction tail
+split_prefix text unsigned whole after digits tail negative s d p =
     let body = d.joined ∙ ap (λ l. whole ++ l) p.joined in
     record {
       joined = s.joined ∙ ap (λ l. sign_text s.sign ++ l) body;
@@ -149,12 +149,12 @@ split_front text unsigned whole after digits tail negative s d p =
 pub has_parts : (text unsigned whole after digits tail : List ℕ) (negative : Bool) (up down : ℕ) → SignSplit text negative unsigned → DigitSplit unsigned whole after
     → PointSplit after digits tail → ExponentRead tail up down → 0 < length whole + length digits → HasParts text negative whole digits up down
 has_parts text unsigned whole after digits tail negative up down s d p x some =
-    let front = split_front text unsigned whole after digits tail negative s d p in
+    let prefix = split_prefix text unsigned whole after digits tail negative s d p in
     record {
-      spelling = record { sign = s.sign; whole = whole; fraction = p.fraction; exponent = x.exponent };
-      spelled = record {
-        lawful = record { whole = d.digits; fraction = front.point_digits; some_digit = omega (arith, ap length p.shown); exponent = x.lawful };
-        joined = front.joined ∙ ap (λ l. sign_text s.sign ++ (whole ++ (fraction_text p.fraction ++ l))) x.joined;
+      numeral = record { sign = s.sign; whole = whole; fraction = p.fraction; exponent = x.exponent };
+      written_so = record {
+        valid = record { whole = d.digits; fraction = prefix.point_digits; some_digit = omega (arith, ap length p.shown); exponent = x.valid };
+        joined = prefix.joined ∙ ap (λ l. sign_text s.sign ++ (whole ++ (fraction_text p.fraction ++ l))) x.joined;
       };
       minus = s.minus;
       whole = refl;
@@ -164,22 +164,22 @@ has_parts text unsigned whole after digits tail negative up down s d p x some =
     }
 
 same_parts : (text unsigned whole after digits tail : List ℕ) (negative : Bool) (s : SignSplit text negative unsigned) → DigitSplit unsigned whole after → (p : PointSplit after digits tail)
-    → (t : Spelling) → Spells text t → SameParts s.sign t.sign whole t.whole p.fraction t.fraction tail (exponent_text t.exponent)
-same_parts text unsigned whole after digits tail negative s d p t spelled =
-    front_once text s.sign t.sign whole t.whole p.fraction t.fraction tail (exponent_text t.exponent)
-    (split_front text unsigned whole after digits tail negative s d p) (front_of text t spelled)
+    → (t : Numeral) → IsTextOf text t → SameParts s.sign t.sign whole t.whole p.fraction t.fraction tail (exponent_text t.exponent)
+same_parts text unsigned whole after digits tail negative s d p t written_so =
+    prefix_once text s.sign t.sign whole t.whole p.fraction t.fraction tail (exponent_text t.exponent)
+    (split_prefix text unsigned whole after digits tail negative s d p) (prefix_of text t written_so)
 
 pub no_digits : (text unsigned whole after digits tail : List ℕ) (negative : Bool) → SignSplit text negative unsigned → DigitSplit unsigned whole after
     → PointSplit after digits tail → length whole + length digits ≡ 0 → ¬ IsDecimalText text
-no_digits text unsigned whole after digits tail negative s d p none (t, spelled) =
-    let same = same_parts text unsigned whole after digits tail negative s d p t spelled in
+no_digits text unsigned whole after digits tail negative s d p none (t, written_so) =
+    let same = same_parts text unsigned whole after digits tail negative s d p t written_so in
     let count = ap (λ f. length (fraction_digits f)) same.fraction in
-    omega (arith, spelled.lawful.some_digit, ap length same.whole, count, ap length p.shown)
+    omega (arith, written_so.valid.some_digit, ap length same.whole, count, ap length p.shown)
 
 pub bad_exponent : (text unsigned whole after digits tail : List ℕ) (negative : Bool) → SignSplit text negative unsigned → DigitSplit unsigned whole after
     → PointSplit after digits tail → NoExponent tail → ¬ IsDecimalText text
-bad_exponent text unsigned whole after digits tail negative s d p none (t, spelled) =
-    none t.exponent spelled.lawful.exponent (same_parts text unsigned whole after digits tail negative s d p t spelled).tail
+bad_exponent text unsigned whole after digits tail negative s d p none (t, written_so) =
+    none t.exponent written_so.valid.exponent (same_parts text unsigned whole after digits tail negative s d p t written_so).tail
 
 -- ---- a text by its first byte
 

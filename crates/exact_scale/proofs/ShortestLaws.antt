@@ -8,13 +8,13 @@ use Rattle.std.proofs.lemmas.Bool.{cases_eq}
 use Rattle.std.proofs.lemmas.List.{append-nil}
 use Rattle.exact_scale.specs.Digits.{AllDigits, number, decimal_digits, last_digits}
 use Rattle.exact_scale.specs.Fraction.{IsSame, decimal_fraction}
-use Rattle.exact_scale.specs.Spelling.{Sign, NoSign, Plus, Minus, signed, sign_text, Spelling, fraction_digits, fraction_text, exponent_text, text_of, IsLawful, Spells, raised, lowered, value_of}
+use Rattle.exact_scale.specs.Numeral.{Sign, NoSign, Plus, Minus, signed, sign_text, Numeral, fraction_digits, fraction_text, exponent_text, text_of, IsValid, IsTextOf, raised, lowered, value_of}
 use Rattle.exact_scale.specs.ShortestText.{decimal_text, point_text, minus_of, IsPlain, IsShortestText}
 use Rattle.exact_scale.proofs.DigitLaws.{number-append, number_below, number_decimal_digits, decimal_digits_are_digits, decimal_digits_some, length-decimal_digits, leading_zero, last_digits_are_digits, length-last_digits, number_last_digits}
 use Rattle.exact_scale.proofs.LeastLaws.{least_places}
 use Rattle.exact_scale.proofs.PowerLaws.{ten_pos, ten_times, cancel_ten, cut_zero}
 use Rattle.exact_scale.proofs.SignLaws.{sign_of, signed-sign_of, minus_of-sign_of, signed_times, minus_of-times, abs_signed, IsSame-sym, IsSame-trans}
-use Rattle.exact_scale.proofs.SpellingLaws.{spelled_once}
+use Rattle.exact_scale.proofs.NumeralLaws.{written_so_once}
 use Rattle.exact_scale.proofs.TextLaws.{point_written, last_kept, text_joined}
 
 -- a size over a power of ten, cut down to where its last digit is not 0 or no place is left
@@ -62,7 +62,7 @@ fraction_of-text zero rest below last =
 fraction_of-text (suc places) rest below last = point_written (suc places) rest (omega arith) last
 
 -- the parts that are written
-abbrev pub written : ℤ → ℕ → ℕ → Spelling
+abbrev pub written : ℤ → ℕ → ℕ → Numeral
 written n short places = record { sign = sign_of n; whole = decimal_digits (short / 10 ^ places); fraction = fraction_of places (short % 10 ^ places); exponent = None }
 
 written_digits : (short places : ℕ) → number (decimal_digits (short / 10 ^ places) ++ fraction_digits (fraction_of places (short % 10 ^ places))) ≡ short
@@ -77,7 +77,7 @@ written_digits short places =
     ∙ div-add-mod' short (10 ^ places)
 
 -- the value of parts without an exponent
-plain_value : (s : Spelling) → s.exponent ≡ None → value_of s ≡ decimal_fraction (signed s.sign (number (s.whole ++ fraction_digits s.fraction))) (length (fraction_digits s.fraction))
+plain_value : (s : Numeral) → s.exponent ≡ None → value_of s ≡ decimal_fraction (signed s.sign (number (s.whole ++ fraction_digits s.fraction))) (length (fraction_digits s.fraction))
 plain_value s none =
     let digits = number (s.whole ++ fraction_digits s.fraction) in
     let places = length (fraction_digits s.fraction) in
@@ -104,7 +104,7 @@ written_value n k short places shorter same =
 -- ---- no plain text of the same fraction is shorter
 
 -- the same value in sizes
-same_sizes : (other : Spelling) (n : ℤ) (k : ℕ) → IsPlain other → IsSame (value_of other) (decimal_fraction n k)
+same_sizes : (other : Numeral) (n : ℤ) (k : ℕ) → IsPlain other → IsSame (value_of other) (decimal_fraction n k)
     → number (other.whole ++ fraction_digits other.fraction) * 10 ^ k ≡ unsigned_abs n * 10 ^ length (fraction_digits other.fraction)
 same_sizes other n k plain same =
     let digits = number (other.whole ++ fraction_digits other.fraction) in
@@ -151,19 +151,19 @@ point_needed fraction zero rest enough = omega arith
 point_needed None (suc places) rest enough = absurd (omega arith)
 point_needed (Some ds) (suc places) rest enough = omega (arith, length-last_digits (suc places) rest)
 
-text_length : (s : Spelling) → length (text_of s) ≡ length (sign_text s.sign) + (length s.whole + (length (fraction_text s.fraction) + length (exponent_text s.exponent)))
+text_length : (s : Numeral) → length (text_of s) ≡ length (sign_text s.sign) + (length s.whole + (length (fraction_text s.fraction) + length (exponent_text s.exponent)))
 text_length s =
     length-append (sign_text s.sign) _
     ∙ ap (λ l. length (sign_text s.sign) + l) (length-append s.whole _ ∙ ap (λ l. length s.whole + l) (length-append (fraction_text s.fraction) (exponent_text s.exponent)))
 
 none_shorter : (n : ℤ) (k short places : ℕ) → places ≤ k → unsigned_abs n ≡ short * 10 ^ (k - places) → (places ≡ 0) ⊎ (0 < short % 10)
-    → (other : Spelling) → IsLawful other → IsPlain other → IsSame (value_of other) (decimal_fraction n k) → length (text_of (written n short places)) ≤ length (text_of other)
-none_shorter n k short places shorter same last other lawful plain denotes =
+    → (other : Numeral) → IsValid other → IsPlain other → IsSame (value_of other) (decimal_fraction n k) → length (text_of (written n short places)) ≤ length (text_of other)
+none_shorter n k short places shorter same last other valid plain denotes =
     let after = fraction_digits other.fraction in
     let sizes = cut_sizes (number (other.whole ++ after)) (length after) k (unsigned_abs n) short places shorter same (same_sizes other n k plain denotes) in
     let enough = enough_places short places (length after) (number (other.whole ++ after)) last sizes in
-    let whole = same_whole short places other.whole after lawful.fraction sizes in
-    let room : short / 10 ^ places < 10 ^ length other.whole = subst (λ w. w < 10 ^ length other.whole) whole (number_below other.whole lawful.whole) in
+    let whole = same_whole short places other.whole after valid.fraction sizes in
+    let room : short / 10 ^ places < 10 ^ length other.whole = subst (λ w. w < 10 ^ length other.whole) whole (number_below other.whole valid.whole) in
     let digits = length-decimal_digits (short / 10 ^ places) (length other.whole) room plain.whole_digit in
     let point = point_needed other.fraction places (short % 10 ^ places) enough in
     let s = subst (λ v. IsSame v (decimal_fraction n k)) (plain_value other plain.no_exponent) denotes in
@@ -181,7 +181,7 @@ sign_minus (pos n) = (λ e. cc, λ negative. absurd (omega (arith, ints, negativ
 sign_minus (negsuc n) = (λ e. record { lt = tt }, λ negative. refl)
 
 no_trailing_zero : (places rest : ℕ) → (places ≡ 0) ⊎ (0 < rest % 10) → (digits : List ℕ) → fraction_of places rest ≡ Some digits
-    → (front : List ℕ) × (last : ℕ) × (digits ≡ front ++ last ∷ []) × (last ≢ 48)
+    → (prefix : List ℕ) × (last : ℕ) × (digits ≡ prefix ++ last ∷ []) × (last ≢ 48)
 no_trailing_zero zero rest last digits e = cc
 no_trailing_zero (suc places) rest last digits e =
     (last_digits places (rest / 10), 48 + rest % 10, cc, λ zero_last. ⊎_elim (λ none. omega arith) (λ odd. omega arith) last)
@@ -190,8 +190,8 @@ fraction_of-all : (places rest : ℕ) → AllDigits (fraction_digits (fraction_o
 fraction_of-all zero rest = tt
 fraction_of-all (suc places) rest = last_digits_are_digits (suc places) rest
 
-written_lawful : (n : ℤ) (short places : ℕ) → IsLawful (written n short places)
-written_lawful n short places = record {
+written_valid : (n : ℤ) (short places : ℕ) → IsValid (written n short places)
+written_valid n short places = record {
   whole = decimal_digits_are_digits (short / 10 ^ places);
   fraction = fraction_of-all places (short % 10 ^ places);
   some_digit = omega (arith, decimal_digits_some (short / 10 ^ places));
@@ -212,16 +212,16 @@ shortest_text n k =
     let s = written n c.short c.places in
     let text = text_joined n k c.short c.places (c.short / 10 ^ c.places) (c.short % 10 ^ c.places) c.shorter c.same refl refl ∙ sym (written_text n c.short c.places c.last) in
     record {
-      spelling = s;
-      spelled = record { lawful = written_lawful n c.short c.places; joined = text };
+      numeral = s;
+      written_so = record { valid = written_valid n c.short c.places; joined = text };
       plain = record { no_exponent = refl; whole_digit = decimal_digits_some (c.short / 10 ^ c.places) };
       denotes = written_value n k c.short c.places c.shorter c.same;
       no_plus = sign_no_plus n;
       minus = sign_minus n;
       no_leading_zero = leading_zero (c.short / 10 ^ c.places);
       no_trailing_zero = no_trailing_zero c.places (c.short % 10 ^ c.places) (last_kept c.short c.places (c.short % 10 ^ c.places) refl c.last);
-      shortest = λ other lawful plain denotes. subst (λ t. length t ≤ length (text_of other)) (sym text)
-          (none_shorter n k c.short c.places c.shorter c.same c.last other lawful plain denotes);
+      shortest = λ other valid plain denotes. subst (λ t. length t ≤ length (text_of other)) (sym text)
+          (none_shorter n k c.short c.places c.shorter c.same c.last other valid plain denotes);
     }
 
 -- one text is of one fraction
@@ -229,6 +229,6 @@ pub same_fraction : (n m : ℤ) (k j : ℕ) → decimal_text n k ≡ decimal_tex
 same_fraction n m k j e =
     let a = shortest_text n k in
     let b = shortest_text m j in
-    let one = spelled_once (decimal_text n k) a.spelling b.spelling a.spelled (subst (λ t. Spells t b.spelling) (sym e) b.spelled) in
-    IsSame-trans (decimal_fraction n k) (value_of a.spelling) (decimal_fraction m j) (ten_pos _)
+    let one = written_so_once (decimal_text n k) a.numeral b.numeral a.written_so (subst (λ t. IsTextOf t b.numeral) (sym e) b.written_so) in
+    IsSame-trans (decimal_fraction n k) (value_of a.numeral) (decimal_fraction m j) (ten_pos _)
     (IsSame-sym _ _ a.denotes) (subst (λ s. IsSame (value_of s) (decimal_fraction m j)) (sym one) b.denotes)

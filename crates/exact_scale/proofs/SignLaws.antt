@@ -6,7 +6,7 @@ use lib.IntN.{negsuc-*ℤ-pos, pos-ne-negsuc}
 use Rattle.std.proofs.lemmas.Nat.{pow-add}
 use Rattle.exact_scale.specs.Fraction.{Fraction, IsSame, decimal_fraction}
 use Rattle.exact_scale.specs.Limits.{numerator_over}
-use Rattle.exact_scale.specs.Spelling.{Sign, NoSign, Plus, Minus, signed, sign_text}
+use Rattle.exact_scale.specs.Numeral.{Sign, NoSign, Plus, Minus, signed, sign_text}
 use Rattle.exact_scale.specs.ShortestText.{minus_of}
 
 -- the sign of a number

@@ -39,7 +39,7 @@ capped_times short unit digit positive = ⊎_elim
     ap (λ s. min (s * unit + digit) (2 ^ 62)) kept ∙ omega arith)
     (cases_lt short (2 ^ 62))
 
--- another digit than 0: the zeros stand before it now
+-- another digit than 0: the zeros are before it now
 pub pushed_digit : (n size zeros digit result : ℕ) → 0 < digit → digit < 10 → result ≡ min (size * 10 ^ (zeros + 1) + digit) (2 ^ 62) → IsSignificand n size zeros → IsSignificand (n * 10 + digit) result 0
 pushed_digit n size zeros digit result positive small e s = record {
   short = s.short * 10 ^ (zeros + 1) + digit;

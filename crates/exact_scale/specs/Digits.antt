@@ -11,7 +11,7 @@ IsDigit byte = (48 ≤ byte) × (byte ≤ 57)
 abbrev pub AllDigits : List ℕ → Type 0
 AllDigits bytes = AllByRecursion IsDigit bytes
 
--- the number that digits spell; no digits spell 0
+-- the number that digits denote; no digits denote 0
 abbrev pub number : List ℕ → ℕ
 number [] = 0
 number (digit ∷ digits) = (digit - 48) * 10 ^ length digits + number digits

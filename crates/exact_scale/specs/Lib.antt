@@ -4,4 +4,4 @@ pub mod Fraction
 pub mod Limits
 pub mod Parts
 pub mod ShortestText
-pub mod Spelling
+pub mod Numeral

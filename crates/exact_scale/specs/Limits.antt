@@ -1,9 +1,9 @@
 -- The limits of a scaling, and those of a raw value.
 use Rattle.std.specs.Prelude.{ℕ, List, ◌^◌, ◌-◌, ◌<◌, ◌≤◌, ◌⊎◌, ℤ, pos, neg_ℤ, ◌*ℤ◌, ◌≤ℤ◌, unsigned_abs}
 use Rattle.exact_scale.specs.declared.scaling.Scale.{Scale}
-use Rattle.exact_scale.specs.Spelling.{Denotes}
+use Rattle.exact_scale.specs.Numeral.{Denotes}
 
--- how many places may stand after the point, and what numerators are below in size
+-- how many places may be after the point, and what numerators are below in size
 abbrev pub most_places : ℕ
 most_places = 30
 

@@ -2,7 +2,7 @@
 use Rattle.std.specs.Prelude.{◌≡◌, ℕ, ◌*◌, ◌^◌, ◌-◌, ◌%◌, ◌<◌, ◌≤◌, min, ◌⊎◌, Bool, true, false, List, [], ◌∷◌, ◌++◌, length, Option, Some, None}
 use Rattle.exact_scale.specs.Digits.{IsDigit, AllDigits, number}
 use Rattle.exact_scale.specs.Limits.{most_places, numerator_limit}
-use Rattle.exact_scale.specs.Spelling.{Sign, NoSign, Plus, Minus, sign_text, Exponent, Spelling, fraction_digits, fraction_text, exponent_text, IsLawfulExponent, Spells, upward, downward, raised, lowered}
+use Rattle.exact_scale.specs.Numeral.{Sign, NoSign, Plus, Minus, sign_text, Exponent, Numeral, fraction_digits, fraction_text, exponent_text, IsValidExponent, IsTextOf, upward, downward, raised, lowered}
 
 -- the bytes are none or begin with something else than a digit
 abbrev pub NoDigitFirst : List ℕ → Type 0
@@ -17,13 +17,13 @@ abbrev pub NoSignFirst : List ℕ → Type 0
 NoSignFirst [] = Unit {0}
 NoSignFirst (byte ∷ bytes) = (byte ≡ 43 → ⊥) × (byte ≡ 45 → ⊥)
 
--- where no sign was taken, none stands first
+-- where no sign was taken, none is first
 abbrev pub TakesSign : Sign → List ℕ → Type 0
 TakesSign NoSign body = NoSignFirst body
 TakesSign Plus body = Unit {0}
 TakesSign Minus body = Unit {0}
 
--- where no point was taken, none stands first
+-- where no point was taken, none is first
 abbrev pub TakesPoint : Option (List ℕ) → List ℕ → Type 0
 TakesPoint None rest = NoPointFirst rest
 TakesPoint (Some digits) rest = Unit {0}
@@ -41,9 +41,9 @@ pub record SignSplit (text : List ℕ) (negative : Bool) (body : List ℕ) : Typ
   pub minus : is_minus sign ≡ negative
 
 -- a text is the digits in front and what follows
-pub record DigitSplit (text front back : List ℕ) : Type 0 where
-  pub joined : text ≡ front ++ back
-  pub digits : AllDigits front
+pub record DigitSplit (text prefix back : List ℕ) : Type 0 where
+  pub joined : text ≡ prefix ++ back
+  pub digits : AllDigits prefix
   pub stop : NoDigitFirst back
 
 -- a text is a point with digits, or neither, and what follows
@@ -62,14 +62,14 @@ capped n = min n (2 ^ 100)
 -- the text is an exponent or nothing, by which the value is raised and lowered
 pub record ExponentRead (text : List ℕ) (up down : ℕ) : Type 0 where
   pub exponent : Option Exponent
-  pub lawful : IsLawfulExponent exponent
+  pub valid : IsValidExponent exponent
   pub joined : text ≡ exponent_text exponent
   pub upward : up ≡ capped (raised exponent)
   pub downward : down ≡ capped (lowered exponent)
 
 -- the text is neither
 abbrev pub NoExponent : List ℕ → Type 0
-NoExponent text = (exponent : Option Exponent) → IsLawfulExponent exponent → text ≡ exponent_text exponent → ⊥
+NoExponent text = (exponent : Option Exponent) → IsValidExponent exponent → text ≡ exponent_text exponent → ⊥
 
 -- what follows the mark of an exponent
 pub record SignedRead (text : List ℕ) (up down : ℕ) : Type 0 where
@@ -87,13 +87,13 @@ NoSigned text = (sign : Sign) (digits : List ℕ) → AllDigits digits → 0 < l
 
 -- the parts of a decimal text
 pub record HasParts (text : List ℕ) (negative : Bool) (before after : List ℕ) (up down : ℕ) : Type 0 where
-  pub spelling : Spelling
-  pub spelled : Spells text spelling
-  pub minus : is_minus spelling.sign ≡ negative
-  pub whole : spelling.whole ≡ before
-  pub fraction : fraction_digits spelling.fraction ≡ after
-  pub upward : up ≡ capped (raised spelling.exponent)
-  pub downward : down ≡ capped (lowered spelling.exponent)
+  pub numeral : Numeral
+  pub written_so : IsTextOf text numeral
+  pub minus : is_minus numeral.sign ≡ negative
+  pub whole : numeral.whole ≡ before
+  pub fraction : fraction_digits numeral.fraction ≡ after
+  pub upward : up ≡ capped (raised numeral.exponent)
+  pub downward : down ≡ capped (lowered numeral.exponent)
 
 -- `n` is a number that does not end in 0, which is kept up to 2^62, with zeros behind it; 0 has none
 pub record IsSignificand (n size zeros : ℕ) : Type 0 where

@@ -3,7 +3,7 @@ use Rattle.std.specs.Prelude.{◌≡◌, ◌≢◌, ℕ, ◌/◌, ◌%◌, ◌^�
 use Rattle.std.specs.List.{list_all}
 use Rattle.exact_scale.specs.Digits.{decimal_digits, last_digits}
 use Rattle.exact_scale.specs.Fraction.{IsSame, decimal_fraction}
-use Rattle.exact_scale.specs.Spelling.{Plus, Minus, Spelling, text_of, Spells, IsLawful, value_of}
+use Rattle.exact_scale.specs.Numeral.{Plus, Minus, Numeral, text_of, IsTextOf, IsValid, value_of}
 
 -- `-` where the number is negative
 abbrev pub minus_of : ℤ → List ℕ
@@ -28,20 +28,20 @@ abbrev pub decimal_text : ℤ → ℕ → List ℕ
 decimal_text n k = minus_of n ++ size_text (unsigned_abs n) k
 
 -- without an exponent, and with a digit before the point
-pub record IsPlain (s : Spelling) : Type 0 where
+pub record IsPlain (s : Numeral) : Type 0 where
   pub no_exponent : s.exponent ≡ None
   pub whole_digit : 0 < length s.whole
 
 -- the text is the shortest plain decimal of `n / 10^k`
 pub record IsShortestText (text : List ℕ) (n : ℤ) (k : ℕ) : Type 0 where
-  pub spelling : Spelling
-  pub spelled : Spells text spelling
-  pub plain : IsPlain spelling
-  pub denotes : IsSame (value_of spelling) (decimal_fraction n k)
-  pub no_plus : spelling.sign ≢ Plus
-  pub minus : (spelling.sign ≡ Minus) ↔ (n <ℤ pos 0)
-  pub no_leading_zero : slice_index spelling.whole 0 ≡ 48 → length spelling.whole ≡ 1
-  pub no_trailing_zero : (digits : List ℕ) → spelling.fraction ≡ Some digits →
-      (front : List ℕ) × (last : ℕ) × (digits ≡ front ++ last ∷ []) × (last ≢ 48)
-  pub shortest : (other : Spelling) → IsLawful other → IsPlain other →
+  pub numeral : Numeral
+  pub written_so : IsTextOf text numeral
+  pub plain : IsPlain numeral
+  pub denotes : IsSame (value_of numeral) (decimal_fraction n k)
+  pub no_plus : numeral.sign ≢ Plus
+  pub minus : (numeral.sign ≡ Minus) ↔ (n <ℤ pos 0)
+  pub no_leading_zero : slice_index numeral.whole 0 ≡ 48 → length numeral.whole ≡ 1
+  pub no_trailing_zero : (digits : List ℕ) → numeral.fraction ≡ Some digits →
+      (prefix : List ℕ) × (last : ℕ) × (digits ≡ prefix ++ last ∷ []) × (last ≢ 48)
+  pub shortest : (other : Numeral) → IsValid other → IsPlain other →
       IsSame (value_of other) (decimal_fraction n k) → length text ≤ length (text_of other)

@@ -6,7 +6,7 @@ ghost use Rattle.exact_scale.specs.Digits.{decimal_digits, last_digits};
 use itoa::Buffer;
 use std::alloc::AllocError;
 
-/// Appends a number's digits without leading zeros, and `0` for 0. Some of them may stand in `out` after an error.
+/// Appends a number's digits without leading zeros, and `0` for 0. Some of them may be in `out` after an error.
 pub(crate) fn push_number(out: &mut Vec<u8>, number: u128) -> Result<(), AllocError>
     ensures ok { OnOk result (out.new.items ≡ out.old.items ++ decimal_digits number) }
     ensures grows { Extends out.old.items out.new.items }

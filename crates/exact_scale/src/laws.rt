@@ -2,7 +2,7 @@
 
 ghost use Rattle.std.specs.Prelude.{◌≡◌, ◌≤◌, ◌⊎◌, List, ℤ, ℕ};
 ghost use Rattle.exact_scale.specs.Limits.{most_places, IsNarrow, IsTooWide};
-ghost use Rattle.exact_scale.specs.Spelling.{IsDecimalText, Denotes};
+ghost use Rattle.exact_scale.specs.Numeral.{IsDecimalText, Denotes};
 
 /// A text denotes one decimal at most.
 pub fn decimal_is_unique()

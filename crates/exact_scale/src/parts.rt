@@ -2,7 +2,7 @@
 ghost use Rattle.std.specs.Prelude.{◌≡◌, ◌<◌, IfSome, IfNone, length};
 ghost use Rattle.exact_scale.specs.Digits.{AllDigits, number};
 ghost use Rattle.exact_scale.specs.Parts.{SignSplit, DigitSplit, PointSplit, ExponentRead, NoExponent, SignedRead, NoSigned, HasParts, NoDigitFirst, capped};
-ghost use Rattle.exact_scale.specs.Spelling.{IsDecimalText};
+ghost use Rattle.exact_scale.specs.Numeral.{IsDecimalText};
 
 /// The exponent of a decimal text is kept up to this bound, above what the digits of any text can make up for.
 const EXPONENT_BOUND: u128 = 1 << 100;
@@ -10,7 +10,7 @@ const EXPONENT_BOUND: u128 = 1 << 100;
 /// The parts of a decimal text.
 #[derive(Clone, Copy)]
 pub(crate) struct Parts<'a> {
-    /// Whether a `-` stands first.
+    /// Whether a `-` is first.
     pub(crate) negative: bool,
     /// The digits before the point.
     pub(crate) whole: &'a [u8],
@@ -54,7 +54,7 @@ impl<'a> Parts<'a> {
     }
 }
 
-/// Whether a `-` stands first, and what follows an optional sign.
+/// Whether a `-` is first, and what follows an optional sign.
 fn split_sign(text: &[u8]) -> (bool, &[u8])
     ensures { SignSplit text.now result.0 result.1.now }
 {
@@ -77,7 +77,7 @@ fn split_digits(text: &[u8]) -> (&[u8], &[u8])
     text.split_at(text.len())
 }
 
-/// The digits after a point, if one stands first, and what follows them.
+/// The digits after a point, if one is first, and what follows them.
 fn split_point(text: &[u8]) -> (&[u8], &[u8])
     requires { NoDigitFirst text.now }
     ensures { PointSplit text.now result.0.now result.1.now }
@@ -127,7 +127,7 @@ fn read_signed(text: &[u8]) -> Option<Exponent>
     })
 }
 
-/// The number that digits spell, up to the bound.
+/// The number that digits denote, up to the bound.
 fn cap_number(digits: &[u8]) -> u128
     requires { AllDigits digits.now }
     ensures { result ≡ capped (number digits.now) }

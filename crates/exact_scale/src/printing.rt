@@ -46,7 +46,7 @@ impl Exact {
         }
     }
 
-    /// The same, but part of the text may stand in `out` after an error.
+    /// The same, but part of the text may be in `out` after an error.
     fn write(&self, out: &mut Vec<u8>) -> Result<(), AllocError>
         ensures ok { OnOk result (out.new.items ≡ out.old.items ++ decimal_text self.now.num self.now.k) }
         ensures grows { Extends out.old.items out.new.items }

@@ -94,14 +94,14 @@ impl Significand {
 }
 
 /// A significand with its zeros and one more digit behind it, up to the limit.
-fn join(front: Significand, digit: u8) -> u64
+fn join(prefix: Significand, digit: u8) -> u64
     requires positive { 0 < digit }
     requires digit { digit < 10 }
-    ensures { (n : ℕ) → IsSignificand n front.size front.zeros → IsSignificand (n * 10 + digit) result 0 }
+    ensures { (n : ℕ) → IsSignificand n prefix.size prefix.zeros → IsSignificand (n * 10 + digit) result 0 }
 {
-    if front.zeros < 18 {
-        let unit = 10u128.pow(front.zeros as u32 + 1);
-        let size = u128::from(front.size) * unit + u128::from(digit);
+    if prefix.zeros < 18 {
+        let unit = 10u128.pow(prefix.zeros as u32 + 1);
+        let size = u128::from(prefix.size) * unit + u128::from(digit);
         size.min(NUMERATOR_LIMIT) as u64
     } else {
         NUMERATOR_LIMIT as u64

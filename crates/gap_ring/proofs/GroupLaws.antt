@@ -35,8 +35,8 @@ IsUnput p = (p.outcome ≡ outcome.Refused) ⊎ ((p.outcome ≡ outcome.Away) ×
 
 -- what follows the last put was not put, in no earlier turn
 pub record Follows (offers : List Offered) : Type 0 where
-  pub front : List Offered
-  pub split : offers ≡ front ++ since_put offers
+  pub prefix : List Offered
+  pub split : offers ≡ prefix ++ since_put offers
   pub unput : All IsUnput (since_put offers)
   pub later : All (λ p. turn_of offers ≤ p.attach) (since_put offers)
   pub numbered : AreNumbered offers
@@ -50,7 +50,7 @@ numbered-snoc os o is before n p there =
 
 follows_nothing : Follows []
 follows_nothing = record {
-  front = [];
+  prefix = [];
   split = refl;
   unput = All-nil IsUnput;
   later = All-nil (λ p. turn_of [] ≤ p.attach);
@@ -62,7 +62,7 @@ follows_put os o put is h =
     let none : since_put (os ++ o ∷ []) ≡ [] = since-snoc os o ∙ cond-true (is_put o) [] (since_put os ++ o ∷ []) put in
     let Q : Offered → Type 0 = λ p. turn_of (os ++ o ∷ []) ≤ p.attach in
     record {
-      front = os ++ o ∷ [];
+      prefix = os ++ o ∷ [];
       split = sym (append-nil (os ++ o ∷ [])) ∙ ap (λ s. (os ++ o ∷ []) ++ s) (sym none);
       unput = subst (All IsUnput) (sym none) (All-nil IsUnput);
       later = subst (All Q) (sym none) (All-nil Q);
@@ -77,8 +77,8 @@ follows_unput os o put idle is rises h =
     let Q : ℕ → Offered → Type 0 = λ t p. t ≤ p.attach in
     let pushed : All (Q (turn_of os)) (since_put os ++ o ∷ []) = All-push (Q (turn_of os)) (since_put os) o h.later (turn_bounded o.attach os rises) in
     record {
-      front = h.front;
-      split = ap (λ xs. xs ++ o ∷ []) h.split ∙ (append_assoc h.front (since_put os) (o ∷ []) ∙ ap (λ s. h.front ++ s) (sym since));
+      prefix = h.prefix;
+      split = ap (λ xs. xs ++ o ∷ []) h.split ∙ (append_assoc h.prefix (since_put os) (o ∷ []) ∙ ap (λ s. h.prefix ++ s) (sym since));
       unput = subst (All IsUnput) (sym since) (All-push IsUnput (since_put os) o h.unput idle);
       later = subst (λ t. All (Q t) (since_put (os ++ o ∷ []))) (sym turn) (subst (All (Q (turn_of os))) (sym since) pushed);
       numbered = numbered-snoc os o is h.numbered;
@@ -110,7 +110,7 @@ is_missed turn a p odd is low high idle =
 -- where a word is of the turn of the last put, all that follows it was refused in that turn
 pub all_missed : (os : List Offered) (a : ℕ) → IsAttached a → turn_of os ≡ a → All (λ p. p.attach ≤ a) os → Follows os → All (IsMissed (turn_of os)) (since_put os)
 all_missed os a odd is rises f k d below =
-    let bounded : All (λ p. p.attach ≤ a) (since_put os) = all_right (λ p. p.attach ≤ a) f.front (since_put os) (subst (All (λ p. p.attach ≤ a)) f.split rises) in
+    let bounded : All (λ p. p.attach ≤ a) (since_put os) = all_right (λ p. p.attach ≤ a) f.prefix (since_put os) (subst (All (λ p. p.attach ≤ a)) f.split rises) in
     is_missed (turn_of os) a (get_or (since_put os) k d) odd is (bounded k d below) (f.later k d below) (f.unput k d below)
 
 pub trailing_all : (os : List Offered) → All (IsMissed (turn_of os)) (since_put os) → trailing os ≡ since_put os
@@ -161,14 +161,14 @@ reading_at os n o there = slice_get-map (λ (p : Offered). p.reading) os n ∙ a
 abbrev gap_from : Offered → List Offered → Missed
 gap_from p ps = missed p.reading (length (p ∷ ps)) (last_of p ps).reading
 
--- what follows the last put stands from that place on
+-- what follows the last put is from that place on
 pub since_at : (os since : List Offered) (next k : ℕ) (d : Offered) → (f : Follows os) → since_put os ≡ since → next + length since ≡ length os
     → k < length since → slice_get os (next + k) ≡ Some (get_or since k d)
 since_at os since next k d f is place below =
-    let split : os ≡ f.front ++ since = f.split ∙ ap (λ s. f.front ++ s) is in
-    let whole : length os ≡ length (f.front ++ since) = ap length split in
-    let front : length f.front + k ≡ next + k = omega (arith, length-append f.front since) in
-    ap (λ xs. slice_get xs (next + k)) split ∙ (get_right f.front since (next + k) k front ∙ slice_get-get_or since k d below)
+    let split : os ≡ f.prefix ++ since = f.split ∙ ap (λ s. f.prefix ++ s) is in
+    let whole : length os ≡ length (f.prefix ++ since) = ap length split in
+    let prefix : length f.prefix + k ≡ next + k = omega (arith, length-append f.prefix since) in
+    ap (λ xs. slice_get xs (next + k)) split ∙ (get_right f.prefix since (next + k) k prefix ∙ slice_get-get_or since k d below)
 
 -- it is a gap of the records offered, and each that it counts was refused in the turn
 pub gap_is : (os : List Offered) (p : Offered) (ps : List Offered) (next : ℕ) → (f : Follows os) → since_put os ≡ p ∷ ps → next + length (p ∷ ps) ≡ length os

@@ -1,4 +1,4 @@
--- What stands at a place of a list still stands there once the list is longer, and a range is two ranges joined.
+-- What is at a place of a list still is there once the list is longer, and a range is two ranges joined.
 use Rattle.std.proofs.Common.{◌≡◌, ℕ, zero, suc, ◌+◌, ◌<◌, Bool, true, false, List, [], ◌∷◌, ◌++◌, length, get_or}
 use Rattle.std.proofs.Common.{slice_get, All, AllPairs, map, drop, flat_map, filter, Some, refl, ap, ◌∙◌, subst, arith, ◌⊎◌, ⊎_elim, inl, inr, length-append}
 use Rattle.std.proofs.lemmas.List.{get_or_append_left}

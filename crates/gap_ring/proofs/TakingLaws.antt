@@ -331,17 +331,17 @@ pub record Found (slots end tail first last versions : ℕ) (c : Progress) (m0 m
   pub versions_seen : saw_gap (step slots versions_word 0 0 none) m4 versions m5
 
 module _ (slots end tail first last versions : ℕ) (c : Progress) (m0 m1 m2 m3 m4 m5 : Sat) (h : Found slots end tail first last versions c m0 m1 m2 m3 m4 m5) where
-  abbrev told : Taking
-  told = m0.0.taking
+  abbrev taken_before : Taking
+  taken_before = m0.0.taking
 
   abbrev loaded : Sat
-  loaded = (record m0.0 { taking = end_loaded end told }, m0.1)
+  loaded = (record m0.0 { taking = end_loaded end taken_before }, m0.1)
 
   found : all_taken (step slots tail_word 0 0 none) loaded tail m2
   found =
-      let here : (tail == length told.taken) ≡ true = eq-eqb tail (length told.taken) (h.same ∙ h.rests.head_is) in
+      let here : (tail == length taken_before.taken) ≡ true = eq-eqb tail (length taken_before.taken) (h.same ∙ h.rests.head_is) in
       let inner : MatchBool (end == 0) (none_waits (step slots tail_word 0 0 none) loaded tail m2) (all_taken (step slots tail_word 0 0 none) loaded tail m2) =
-      MatchBool-at_true {b = tail == length told.taken} (MatchBool (end == 0) (none_waits (step slots tail_word 0 0 none) loaded tail m2) (all_taken (step slots tail_word 0 0 none) loaded tail m2))
+      MatchBool-at_true {b = tail == length taken_before.taken} (MatchBool (end == 0) (none_waits (step slots tail_word 0 0 none) loaded tail m2) (all_taken (step slots tail_word 0 0 none) loaded tail m2))
       (item_waits (step slots tail_word 0 0 none) loaded tail m2) here
       (subst (λ (m : Sat). saw_tail (step slots tail_word 0 0 none) m tail m2) h.end_seen h.tail_seen) in
       MatchBool-at_false {b = end == 0} (none_waits (step slots tail_word 0 0 none) loaded tail m2) (all_taken (step slots tail_word 0 0 none) loaded tail m2)
@@ -351,7 +351,7 @@ module _ (slots end tail first last versions : ℕ) (c : Progress) (m0 m1 m2 m3 
   known = found.0
 
   abbrev at_end : Taking
-  at_end = tail_loaded tail (record (end_loaded end told) { done = true; known = known })
+  at_end = tail_loaded tail (record (end_loaded end taken_before) { done = true; known = known })
 
   abbrev words_seen : GapWords
   words_seen = record { first = first; last = last; versions = versions }
@@ -379,19 +379,19 @@ module _ (slots end tail first last versions : ℕ) (c : Progress) (m0 m1 m2 m3 
       λ i. record { first = a i; last = b i; versions = d i }
 
   pub end_made : (gap : Option Missed) → gap ≡ cond (c.started && nat_lt c.next (end - 1)) (Some (gap_by c.next (end - 1) words_seen)) None
-      → TakeMade slots told m5.0.taking (take.Ended (end - 1) gap)
+      → TakeMade slots taken_before m5.0.taking (take.Ended (end - 1) gap)
   end_made gap is =
-      let all : IsAll slots (end_loaded end told) known = found.3 in
+      let all : IsAll slots (end_loaded end taken_before) known = found.3 in
       let not_zero = h.ended in
       let one_more : end ≡ end - 1 + 1 = omega (arith, all.number) in
       let count : length known ≡ end - 1 = omega (arith, all.number) in
-      let answer = gap_answer slots (end - 1) told known c m0.0 words_seen refl h.rests h.odd all.offered all.words all.low all.all_taken all.fits count words_are in
-      let kept : told.done ≡ true → known ≡ told.known = found.4 in
-      let place : at_end ≡ found_end told (end - 1 + 1) known =
-      ap (λ (n : ℕ). tail_loaded n (record (end_loaded end told) { done = true; known = known })) (h.same ∙ h.rests.head_is)
-      ∙ ap (λ (n : ℕ). found_end told n known) one_more in
-      let now : m5.0.taking ≡ gap_loaded gap_words (found_end told (end - 1 + 1) known) =
-      fifth_taking ∙ (ap (gap_loaded words_seen) place ∙ ap (λ (w : GapWords). gap_loaded w (found_end told (end - 1 + 1) known)) words_are) in
+      let answer = gap_answer slots (end - 1) taken_before known c m0.0 words_seen refl h.rests h.odd all.offered all.words all.low all.all_taken all.fits count words_are in
+      let kept : taken_before.done ≡ true → known ≡ taken_before.known = found.4 in
+      let place : at_end ≡ found_end taken_before (end - 1 + 1) known =
+      ap (λ (n : ℕ). tail_loaded n (record (end_loaded end taken_before) { done = true; known = known })) (h.same ∙ h.rests.head_is)
+      ∙ ap (λ (n : ℕ). found_end taken_before n known) one_more in
+      let now : m5.0.taking ≡ gap_loaded gap_words (found_end taken_before (end - 1 + 1) known) =
+      fifth_taking ∙ (ap (gap_loaded words_seen) place ∙ ap (λ (w : GapWords). gap_loaded w (found_end taken_before (end - 1 + 1) known)) words_are) in
       record {
         known = known;
         offered = all.offered;
@@ -407,7 +407,7 @@ module _ (slots end tail first last versions : ℕ) (c : Progress) (m0 m1 m2 m3 
         same_turn = record { bus_same = ap (λ (u : Taking). u.bus) now; attach_same = ap (λ (u : Taking). u.attach) now };
         steps_are =
             ap (λ (u : Taking). u.steps) now
-            ∙ five_more told.steps (did.Loaded end_word (end - 1 + 1)) (did.Loaded tail_word (length told.taken)) (did.Loaded first_word gap_words.first)
+            ∙ five_more taken_before.steps (did.Loaded end_word (end - 1 + 1)) (did.Loaded tail_word (length taken_before.taken)) (did.Loaded first_word gap_words.first)
             (did.Loaded last_word gap_words.last) (did.Loaded versions_word gap_words.versions);
       }
 

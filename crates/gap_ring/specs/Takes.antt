@@ -75,7 +75,7 @@ pub record FoundEnd (slots : ℕ) (t t' : Taking) (number : ℕ) (gap : Option M
   pub steps_are :
       t'.steps ≡ t.steps ++ loads_at_end number (length t.taken) (gap_words_of (gap_of (trailing known)))
 
--- what a take does: an item is given; or it stands before this turn's Start, and nothing was given yet nor is
+-- what a take does: an item is given; or it is before this turn's Start, and nothing was given yet nor is
 -- now; or nothing waits
 abbrev pub TakeMade : ℕ → Taking → Taking → Take → Type 0
 TakeMade slots t t' (take.Item x) =

@@ -18,7 +18,7 @@ pub enum Offer {
 pub enum Take {
     /// The oldest item.
     Item { item: Item },
-    /// The oldest item stands before this turn's Start, and was dropped.
+    /// The oldest item is before this turn's Start, and was dropped.
     Old,
     /// Nothing waits; the ring goes on.
     Empty { tail: u64 },

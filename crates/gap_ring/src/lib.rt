@@ -1,13 +1,13 @@
 //! Rings that state their gaps: between the thread that decodes a bus and a thread that serves a subscriber
-//! stands a ring, from which a slow subscriber misses records without holding up the bus, and which counts
+//! is a ring, from which a slow subscriber misses records without holding up the bus, and which counts
 //! exactly what it missed.
 //!
-//! It takes records and items from `bench_model` and stands on the kit's `atomic_table`: the items lie in the
+//! It takes records and items from `bench_model` and builds on the kit's `atomic_table`: the items lie in the
 //! slots of a table, beside the words head, tail, end and attach and three gap words. The decoding of a bus
 //! will offer its records to rings, and the sessions of subscribers will take from them.
 //!
 //! Main theorem: in every interleaving, what a taker is given in a turn is a stretch of the records offered
-//! from its Start on, in order, in which each record stands as it was offered or is counted by a gap, and
+//! from its Start on, in order, in which each record is as it was offered or is counted by a gap, and
 //! each record that a gap counts was refused in that turn since the ring was full.
 #![tactic(auto)]
 

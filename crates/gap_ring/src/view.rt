@@ -1,5 +1,5 @@
 //! What the two seats of a ring know, each of its own steps. No value of these types but `GapWords` is made:
-//! they stand in contracts alone.
+//! they are in contracts alone.
 
 use crate::entries::{Offered, Taken};
 use atomic_table::{Seat, Table, TableRule};

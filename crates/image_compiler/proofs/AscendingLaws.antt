@@ -10,7 +10,7 @@ use Rattle.std.proofs.lemmas.List.Sorted.{IsPermutation-refl, IsPermutation-tran
 use Rattle.image_words.specs.Layout.{word}
 use Rattle.image_words.specs.Index.{IsIndexOf, HasIndex}
 use Rattle.image_compiler.specs.Layout.{inserted, ascending}
-use Rattle.image_compiler.proofs.ListLaws.{Stands}
+use Rattle.image_compiler.proofs.ListLaws.{LiesAt}
 
 -- ---- lengths
 
@@ -168,25 +168,25 @@ one_index entries index rises same =
 
 -- ---- in the image
 
-front_is : (xs part : List ℕ) → length part ≤ length xs → ((i : ℕ) → i < length part → get_or xs i 0 ≡ get_or part i 0) → take (length part) xs ≡ part
-front_is xs [] long each = refl
-front_is [] (p ∷ part) long each = absurd (omega (arith, long))
-front_is (x ∷ xs) (p ∷ part) long each =
+prefix_is : (xs part : List ℕ) → length part ≤ length xs → ((i : ℕ) → i < length part → get_or xs i 0 ≡ get_or part i 0) → take (length part) xs ≡ part
+prefix_is xs [] long each = refl
+prefix_is [] (p ∷ part) long each = absurd (omega (arith, long))
+prefix_is (x ∷ xs) (p ∷ part) long each =
     let first : x ≡ p = each 0 (omega arith) in
-    let rest = front_is xs part (omega (arith, long)) (λ i h. each (suc i) (omega (arith, h))) in
+    let rest = prefix_is xs part (omega (arith, long)) (λ i h. each (suc i) (omega (arith, h))) in
     ap (λ (z : ℕ). z ∷ take (length part) xs) first ∙ ap (λ (zs : List ℕ). p ∷ zs) rest
 
-range_is : (words part : List ℕ) (at : ℕ) → Stands words at part → at + length part ≤ length words → slice_range words at (at + length part) ≡ part
+range_is : (words part : List ℕ) (at : ℕ) → LiesAt words at part → at + length part ≤ length words → slice_range words at (at + length part) ≡ part
 range_is words part at s long =
     let count : at + length part - at ≡ length part = omega arith in
     let enough : length part ≤ length (drop at words) = omega (arith, long, length-drop at words) in
     ap (λ (n : ℕ). take n (drop at words)) count
-    ∙ front_is (drop at words) part enough (λ i h. get_or-drop at words i 0 ∙ s.each i h)
+    ∙ prefix_is (drop at words) part enough (λ i h. get_or-drop at words i 0 ∙ s.each i h)
 
 -- an index at a place, with its number of entries
-pub index_stands : (words entries : List ℕ) (at count : ℕ) → Stands words at (ascending entries) → count ≡ length entries →
+pub index_lies : (words entries : List ℕ) (at count : ℕ) → LiesAt words at (ascending entries) → count ≡ length entries →
     at + length entries ≤ word words 0 → word words 0 ≤ length words → HasIndex words entries at count
-index_stands words entries at count s e inside whole =
+index_lies words entries at count s e inside whole =
     let long : length (ascending entries) ≡ count = ascending_long entries ∙ sym e in
     let range : slice_range words at (at + count) ≡ ascending entries =
     ap (λ (n : ℕ). slice_range words at (at + n)) (sym long) ∙ range_is words (ascending entries) at s (omega (arith, long, e, inside, whole)) in

@@ -20,11 +20,11 @@ use Rattle.image_words.specs.Image.{HasSignal, HasParent, HasMessage, HasBus, En
 use Rattle.image_compiler.specs.Size.{total, table_size, text_size, signal_behind, parent_behind, message_behind, bus_behind, image_size}
 use Rattle.image_compiler.specs.Layout.{text_words, table_words, parts_from, signal_parts, parent_parts, signal_rows, signals_words, message_row, message_parts, ascending, bus_row, bus_parts, kind_number, layout}
 use Rattle.image_compiler.specs.Typed.{IsTypedSignal, IsTypedMessage, IsTypedBus}
-use Rattle.image_compiler.proofs.ListLaws.{Stands, stands_first, stands_word, stands_left, stands_right, stands_at, all_both, table_total, table_long, table_stands, all_parts_long}
-use Rattle.image_compiler.proofs.TextLaws.{text_long, text_stands}
-use Rattle.image_compiler.proofs.AscendingLaws.{ascending_long, index_stands}
+use Rattle.image_compiler.proofs.ListLaws.{LiesAt, lies_first, lies_word, lies_left, lies_right, lies_at, all_both, table_total, table_long, table_lies, all_parts_long}
+use Rattle.image_compiler.proofs.TextLaws.{text_long, text_lies}
+use Rattle.image_compiler.proofs.AscendingLaws.{ascending_long, index_lies}
 use Rattle.image_compiler.proofs.RowLaws.{rows_at}
-use Rattle.image_compiler.proofs.SignalLaws.{IsGoodSignal, parent_parts_long, signal_parts_long, signal_rows_long, signals_stand}
+use Rattle.image_compiler.proofs.SignalLaws.{IsGoodSignal, parent_parts_long, signal_parts_long, signal_rows_long, signals_lie}
 
 -- ---- messages
 
@@ -76,48 +76,48 @@ key_extended w id true h e = let bit : 1 ≡ w / extended_from = omega (arith, h
 key_extended w id false h e = let bit : 0 ≡ w / extended_from = omega (arith, h, e) in ap (λ (n : ℕ). n == 1) bit
 
 -- the signals of a message and their parents
-signal_lists_stand : (words : List ℕ) (at : ℕ) (ss : List Signal) (ps : List (Option Parent)) → All IsGoodSignal ss → length ps ≡ length ss →
+signal_lists_lie : (words : List ℕ) (at : ℕ) (ss : List Signal) (ps : List (Option Parent)) → All IsGoodSignal ss → length ps ≡ length ss →
     (first ranges : ℕ) → first ≡ at + signal_words * length ss → ranges ≡ first + total signal_behind ss →
-    Stands words at (signal_rows first ranges ss ps ++ (parts_from signal_parts signal_behind first ss ++ parts_from parent_parts parent_behind ranges ps)) →
+    LiesAt words at (signal_rows first ranges ss ps ++ (parts_from signal_parts signal_behind first ss ++ parts_from parent_parts parent_behind ranges ps)) →
     2 ≤ at → at + (table_size signal_words signal_behind ss + total parent_behind ps) ≤ word words 0 →
     HasRows (HasSignal words) signal_words at (length ss) ss × HasRows (HasParent words) signal_words at (length ss) ps
-signal_lists_stand words at ss ps good same first ranges e f s past h =
+signal_lists_lie words at ss ps good same first ranges e f s past h =
     let rows : List ℕ = signal_rows first ranges ss ps in
     let parts : List ℕ = parts_from signal_parts signal_behind first ss in
     let lists : List ℕ = parts_from parent_parts parent_behind ranges ps in
     let sum = table_total signal_words signal_behind ss in
     let a : length parts ≡ total signal_behind ss =
     all_parts_long (λ (x : Signal). Unit {0}) 0 (λ p x. []) signal_parts signal_behind (λ p x. refl) (λ p x any. signal_parts_long p x) first ss (λ k d i. tt) in
-    let behind = stands_right words at (signal_words * length ss) rows (parts ++ lists) (signal_rows_long first ranges ss ps same) s in
-    let there = stands_at words (at + signal_words * length ss) first (parts ++ lists) (sym e) behind in
-    let last = stands_right words first (total signal_behind ss) parts lists a there in
-    let both = signals_stand words at first ranges ss ps good same (stands_left words at rows (parts ++ lists) s) (stands_left words first parts lists there)
-    (stands_at words (first + total signal_behind ss) ranges lists (sym f) last)
+    let behind = lies_right words at (signal_words * length ss) rows (parts ++ lists) (signal_rows_long first ranges ss ps same) s in
+    let there = lies_at words (at + signal_words * length ss) first (parts ++ lists) (sym e) behind in
+    let last = lies_right words first (total signal_behind ss) parts lists a there in
+    let both = signals_lie words at first ranges ss ps good same (lies_left words at rows (parts ++ lists) s) (lies_left words first parts lists there)
+    (lies_at words (first + total signal_behind ss) ranges lists (sym f) last)
     (omega (arith, past, e)) (omega (arith, h, sum, e)) (omega (arith, h, sum, e, f)) (omega (arith, h, sum)) in
     (record { size = refl; each = both.0 }, record { size = same; each = both.1 })
 
-message_one : (words : List ℕ) (at place : ℕ) (m : Message) → IsGoodMessage m → Stands words at (message_row place m) → Stands words place (message_parts place m) →
+message_one : (words : List ℕ) (at place : ℕ) (m : Message) → IsGoodMessage m → LiesAt words at (message_row place m) → LiesAt words place (message_parts place m) →
     2 ≤ place → place + message_behind m ≤ word words 0 → at + message_words ≤ word words 0 → HasMessage words at m
 message_one words at place m good s t past h k =
     let rules = good.1.0 in
     let typed = good.1.1 in
-    let key = stands_first words at _ _ s in
+    let key = lies_first words at _ _ s in
     let there : ℕ = place + text_size m.name in
     let first : ℕ = there + signal_words * length m.signals in
     let signals = all_both (λ (x : Signal). IsCoding x.coding) (λ x. KeepsSignalRules x × IsTypedSignal x) m.signals good.0.codings
     (all_both KeepsSignalRules IsTypedSignal m.signals rules.signals typed.signals) in
-    let both = signal_lists_stand words there m.signals m.tree.parents signals good.0.tree.number first (first + total signal_behind m.signals) refl refl
-    (stands_right words place (text_size m.name) (text_words m.name) (signals_words there m) (text_long m.name) t) (omega (arith, past)) (omega (arith, h)) in
-    let number = stands_word words at 3 _ (omega arith) s in
-    let spot = stands_word words at 4 _ (omega arith) s in
+    let both = signal_lists_lie words there m.signals m.tree.parents signals good.0.tree.number first (first + total signal_behind m.signals) refl refl
+    (lies_right words place (text_size m.name) (text_words m.name) (signals_words there m) (text_long m.name) t) (omega (arith, past)) (omega (arith, h)) in
+    let number = lies_word words at 3 _ (omega arith) s in
+    let spot = lies_word words at 4 _ (omega arith) s in
     record {
       within = k;
       key = key_below (word words at) m.key.id m.key.extended typed.id key;
       id = key_id (word words at) m.key.id m.key.extended typed.id key;
       extended = key_extended (word words at) m.key.id m.key.extended typed.id key;
-      name = text_stands words (at + 1) place m.name typed.name (omega (arith, rules.name.bytes)) (stands_word words at 1 _ (omega arith) s)
-          (stands_left words place (text_words m.name) (signals_words there m) t) past (omega (arith, h));
-      size = sym (stands_word words at 2 _ (omega arith) s);
+      name = text_lies words (at + 1) place m.name typed.name (omega (arith, rules.name.bytes)) (lies_word words at 1 _ (omega arith) s)
+          (lies_left words place (text_words m.name) (signals_words there m) t) past (omega (arith, h));
+      size = sym (lies_word words at 2 _ (omega arith) s);
       signals = rows_at (HasSignal words) signal_words there (length m.signals) (word words (at + 4)) (word words (at + 3)) m.signals spot number both.0;
       parents = rows_at (HasParent words) signal_words there (length m.signals) (word words (at + 4)) (word words (at + 3)) m.tree.parents spot number both.1;
     }
@@ -175,8 +175,8 @@ index_at words entries at count a c e f h =
     let Q : ℕ → Type 0 = λ n. HasIndex words entries a n in
     subst Q (sym f) (subst P (sym e) h)
 
-bus_one : (words : List ℕ) → word words 0 ≤ length words → (at place : ℕ) (bus : Bus) → IsGoodBus bus → Stands words at (bus_row place bus) →
-    Stands words place (bus_parts place bus) → 2 ≤ place → place + bus_behind bus ≤ word words 0 → at + bus_words ≤ word words 0 → HasBus words at bus
+bus_one : (words : List ℕ) → word words 0 ≤ length words → (at place : ℕ) (bus : Bus) → IsGoodBus bus → LiesAt words at (bus_row place bus) →
+    LiesAt words place (bus_parts place bus) → 2 ≤ place → place + bus_behind bus ≤ word words 0 → at + bus_words ≤ word words 0 → HasBus words at bus
 bus_one words whole at place bus good s t past h k =
     let ms : List Message = bus.database.messages in
     let there : ℕ = place + text_size bus.name in
@@ -184,29 +184,29 @@ bus_one words whole at place bus good s t past h k =
     let keys : List ℕ = ascending (key_entries 0 ms) in
     let groups : List ℕ = ascending (groups_on bus.kind ms) in
     let keys_at : ℕ = there + table_size message_words message_behind ms in
-    let kind = stands_first words at _ _ s in
-    let behind = stands_right words place (text_size bus.name) (text_words bus.name) (table ++ (keys ++ groups)) (text_long bus.name) t in
-    let indexes = stands_right words there (table_size message_words message_behind ms) table (keys ++ groups) (messages_long there ms good.messages) behind in
+    let kind = lies_first words at _ _ s in
+    let behind = lies_right words place (text_size bus.name) (text_words bus.name) (table ++ (keys ++ groups)) (text_long bus.name) t in
+    let indexes = lies_right words there (table_size message_words message_behind ms) table (keys ++ groups) (messages_long there ms good.messages) behind in
     let count : length keys ≡ length ms = ascending_long (key_entries 0 ms) ∙ key_entries_long 0 ms in
-    let last = stands_right words keys_at (length ms) keys groups count indexes in
-    let rows = table_stands IsGoodMessage message_words message_row message_parts message_behind message_row_long message_parts_long words (HasMessage words) (message_one words)
-    there ms good.messages (stands_left words there table (keys ++ groups) behind) (omega (arith, past)) (omega (arith, h)) in
-    let number = stands_word words at 2 _ (omega arith) s in
+    let last = lies_right words keys_at (length ms) keys groups count indexes in
+    let rows = table_lies IsGoodMessage message_words message_row message_parts message_behind message_row_long message_parts_long words (HasMessage words) (message_one words)
+    there ms good.messages (lies_left words there table (keys ++ groups) behind) (omega (arith, past)) (omega (arith, h)) in
+    let number = lies_word words at 2 _ (omega arith) s in
     record {
       within = k;
       number = kind_below (word words at) bus.kind kind;
       kind = kind_back (word words at) bus.kind kind;
-      name = text_stands words (at + 1) place bus.name good.typed.name (omega (arith, good.bytes)) (stands_word words at 1 _ (omega arith) s)
-          (stands_left words place (text_words bus.name) (table ++ (keys ++ groups)) t) past (omega (arith, h));
+      name = text_lies words (at + 1) place bus.name good.typed.name (omega (arith, good.bytes)) (lies_word words at 1 _ (omega arith) s)
+          (lies_left words place (text_words bus.name) (table ++ (keys ++ groups)) t) past (omega (arith, h));
       messages = rows_at (HasMessage words) message_words there (length ms) (word words (at + 3)) (word words (at + 2)) ms
-          (stands_word words at 3 _ (omega arith) s) number rows;
+          (lies_word words at 3 _ (omega arith) s) number rows;
       keys = index_at words (key_entries 0 ms) keys_at (length ms) (word words (at + 4)) (word words (at + 2))
-          (stands_word words at 4 _ (omega arith) s) number
-          (index_stands words (key_entries 0 ms) keys_at (length ms) (stands_left words keys_at keys groups indexes) (sym (key_entries_long 0 ms))
+          (lies_word words at 4 _ (omega arith) s) number
+          (index_lies words (key_entries 0 ms) keys_at (length ms) (lies_left words keys_at keys groups indexes) (sym (key_entries_long 0 ms))
           (omega (arith, h, key_entries_long 0 ms)) whole);
       groups = index_at words (groups_on bus.kind ms) (keys_at + length ms) (length (groups_on bus.kind ms)) (word words (at + 6)) (word words (at + 5))
-          (stands_word words at 6 _ (omega arith) s) (stands_word words at 5 _ (omega arith) s)
-          (index_stands words (groups_on bus.kind ms) (keys_at + length ms) (length (groups_on bus.kind ms)) last refl (omega (arith, h)) whole);
+          (lies_word words at 6 _ (omega arith) s) (lies_word words at 5 _ (omega arith) s)
+          (index_lies words (groups_on bus.kind ms) (keys_at + length ms) (length (groups_on bus.kind ms)) last refl (omega (arith, h)) whole);
     }
 
 -- ---- the bench
@@ -219,14 +219,14 @@ pub layout_long : (bench : Bench) → All IsGoodBus bench.buses → length (layo
 unfolding layout
 layout_long bench good = let rest = buses_long bench good in omega (arith, rest)
 
-whole_stands : (words : List ℕ) → Stands words 0 words
-whole_stands words = record { each = λ i h. let e : 0 + i ≡ i = omega arith in ap (λ (p : ℕ). get_or words p 0) e }
+whole_lies : (words : List ℕ) → LiesAt words 0 words
+whole_lies words = record { each = λ i h. let e : 0 + i ≡ i = omega arith in ap (λ (p : ℕ). get_or words p 0) e }
 
-layout_stands : (bench : Bench) → Stands (layout bench) header_words (table_words bus_words bus_row bus_parts bus_behind header_words bench.buses)
+layout_lies : (bench : Bench) → LiesAt (layout bench) header_words (table_words bus_words bus_row bus_parts bus_behind header_words bench.buses)
 unfolding layout
-layout_stands bench =
-    stands_right (layout bench) 0 2 (image_size bench ∷ length bench.buses ∷ []) (table_words bus_words bus_row bus_parts bus_behind header_words bench.buses) refl
-    (whole_stands (layout bench))
+layout_lies bench =
+    lies_right (layout bench) 0 2 (image_size bench ∷ length bench.buses ∷ []) (table_words bus_words bus_row bus_parts bus_behind header_words bench.buses) refl
+    (whole_lies (layout bench))
 
 layout_length : (bench : Bench) → word (layout bench) 0 ≡ image_size bench
 unfolding layout
@@ -241,8 +241,8 @@ layout_encodes bench good =
     let image : List ℕ = layout bench in
     let size = layout_length bench in
     let whole : word image 0 ≤ length image = omega (arith, size, layout_long bench good) in
-    let rows = table_stands IsGoodBus bus_words bus_row bus_parts bus_behind bus_row_long bus_parts_long image (HasBus image) (bus_one image whole)
-    header_words bench.buses good (layout_stands bench) (omega arith) (omega (arith, size)) in
+    let rows = table_lies IsGoodBus bus_words bus_row bus_parts bus_behind bus_row_long bus_parts_long image (HasBus image) (bus_one image whole)
+    header_words bench.buses good (layout_lies bench) (omega arith) (omega (arith, size)) in
     record {
       header = omega (arith, size);
       whole = whole;

@@ -1,4 +1,4 @@
--- Where words stand in an image, and that rows with what they refer to behind them are rows of the image.
+-- Where words are in an image, and that rows with what they refer to behind them are rows of the image.
 use Rattle.std.proofs.Common.{◌≡◌, ◌∙◌, ℕ, suc, ◌+◌, ◌-◌, ◌*◌, ◌<◌, ◌≤◌, List, [], ◌∷◌, ◌++◌, length, get_or, refl, ap, sym, subst, arith, length-append, add-zero}
 use Rattle.std.specs.List.{All}
 use Rattle.std.specs.Prelude.{slice_index_or}
@@ -8,28 +8,28 @@ use Rattle.image_words.specs.Layout.{word, EachRow, HasRows}
 use Rattle.image_compiler.specs.Size.{total, table_size}
 use Rattle.image_compiler.specs.Layout.{rows_from, parts_from, table_words}
 
--- these words stand from a place on
-pub record Stands (words : List ℕ) (place : ℕ) (part : List ℕ) : Type 0 where
+-- these words are from a place on
+pub record LiesAt (words : List ℕ) (place : ℕ) (part : List ℕ) : Type 0 where
   pub each : (i : ℕ) → i < length part → get_or words (place + i) 0 ≡ get_or part i 0
 
-pub stands_first : (words : List ℕ) (place w : ℕ) (part : List ℕ) → Stands words place (w ∷ part) → word words place ≡ w
-stands_first words place w part s =
+pub lies_first : (words : List ℕ) (place w : ℕ) (part : List ℕ) → LiesAt words place (w ∷ part) → word words place ≡ w
+lies_first words place w part s =
     let some : 0 < suc (length part) = omega arith in
     ap (λ (p : ℕ). get_or words p 0) (sym (add-zero place)) ∙ s.each 0 some
 
 -- the word at a place of a part
-pub stands_word : (words : List ℕ) (place i : ℕ) (part : List ℕ) → i < length part → Stands words place part → word words (place + i) ≡ get_or part i 0
-stands_word words place i part h s = s.each i h
+pub lies_word : (words : List ℕ) (place i : ℕ) (part : List ℕ) → i < length part → LiesAt words place part → word words (place + i) ≡ get_or part i 0
+lies_word words place i part h s = s.each i h
 
-pub stands_left : (words : List ℕ) (place : ℕ) (xs ys : List ℕ) → Stands words place (xs ++ ys) → Stands words place xs
-stands_left words place xs ys s = record {
+pub lies_left : (words : List ℕ) (place : ℕ) (xs ys : List ℕ) → LiesAt words place (xs ++ ys) → LiesAt words place xs
+lies_left words place xs ys s = record {
   each = λ i h.
       let within : i < length (xs ++ ys) = omega (arith, h, length-append xs ys) in
       s.each i within ∙ get_or-append xs ys 0 i h;
 }
 
-pub stands_right : (words : List ℕ) (place n : ℕ) (xs ys : List ℕ) → length xs ≡ n → Stands words place (xs ++ ys) → Stands words (place + n) ys
-stands_right words place n xs ys long s = record {
+pub lies_right : (words : List ℕ) (place n : ℕ) (xs ys : List ℕ) → length xs ≡ n → LiesAt words place (xs ++ ys) → LiesAt words (place + n) ys
+lies_right words place n xs ys long s = record {
   each = λ i h.
       let within : n + i < length (xs ++ ys) = omega (arith, h, long, length-append xs ys) in
       let past : n ≤ n + i = omega arith in
@@ -38,14 +38,14 @@ stands_right words place n xs ys long s = record {
       ap (λ (p : ℕ). get_or words p 0) e ∙ s.each (n + i) within ∙ get_or-append_right xs ys n (n + i) 0 long past ∙ ap (λ (k : ℕ). get_or ys k 0) back;
 }
 
-pub stands_next : (words : List ℕ) (place w : ℕ) (part : List ℕ) → Stands words place (w ∷ part) → Stands words (place + 1) part
-stands_next words place w part s = stands_right words place 1 (w ∷ []) part refl s
+pub lies_next : (words : List ℕ) (place w : ℕ) (part : List ℕ) → LiesAt words place (w ∷ part) → LiesAt words (place + 1) part
+lies_next words place w part s = lies_right words place 1 (w ∷ []) part refl s
 
-pub stands_at : (words : List ℕ) (place other : ℕ) (part : List ℕ) → place ≡ other → Stands words place part → Stands words other part
-stands_at words place other part e s = let P : ℕ → Type 0 = λ p. Stands words p part in subst P e s
+pub lies_at : (words : List ℕ) (place other : ℕ) (part : List ℕ) → place ≡ other → LiesAt words place part → LiesAt words other part
+lies_at words place other part e s = let P : ℕ → Type 0 = λ p. LiesAt words p part in subst P e s
 
-pub stands_as : (words : List ℕ) (place : ℕ) (xs ys : List ℕ) → xs ≡ ys → Stands words place xs → Stands words place ys
-stands_as words place xs ys e s = let P : List ℕ → Type 0 = λ p. Stands words place p in subst P e s
+pub lies_as : (words : List ℕ) (place : ℕ) (xs ys : List ℕ) → xs ≡ ys → LiesAt words place xs → LiesAt words place ys
+lies_as words place xs ys e s = let P : List ℕ → Type 0 = λ p. LiesAt words place p in subst P e s
 
 -- ---- all of a list
 
@@ -98,31 +98,31 @@ module _ {X : Type 0} (P : X → Type 0) (width : ℕ) (row parts : ℕ → X �
     (row_long : (place : ℕ) (x : X) → length (row place x) ≡ width)
     (parts_long : (place : ℕ) (x : X) → P x → length (parts place x) ≡ behind x)
     (image : List ℕ) (Has : ℕ → X → Type 0)
-    (one : (at place : ℕ) (x : X) → P x → Stands image at (row place x) → Stands image place (parts place x) → 2 ≤ place →
+    (one : (at place : ℕ) (x : X) → P x → LiesAt image at (row place x) → LiesAt image place (parts place x) → 2 ≤ place →
     place + behind x ≤ word image 0 → at + width ≤ word image 0 → Has at x) where
-  rows_stand : (at place : ℕ) (xs : List X) → All P xs → Stands image at (rows_from row behind place xs) → Stands image place (parts_from parts behind place xs) →
+  rows_lie : (at place : ℕ) (xs : List X) → All P xs → LiesAt image at (rows_from row behind place xs) → LiesAt image place (parts_from parts behind place xs) →
       2 ≤ place → place + total behind xs ≤ word image 0 → at + width * length xs ≤ word image 0 → EachRow Has width at xs
   unfolding rows_from parts_from total EachRow
-  rows_stand at place [] are s t past h k = tt
-  rows_stand at place (x ∷ xs) are s t past h k =
+  rows_lie at place [] are s t past h k = tt
+  rows_lie at place (x ∷ xs) are s t past h k =
       let here = all_first P x xs are in (
-        one at place x here (stands_left image at (row place x) (rows_from row behind (place + behind x) xs) s)
-            (stands_left image place (parts place x) (parts_from parts behind (place + behind x) xs) t) past (omega (arith, h)) (omega (arith, k)),
-        rows_stand (at + width) (place + behind x) xs (all_rest P x xs are)
-            (stands_right image at width (row place x) (rows_from row behind (place + behind x) xs) (row_long place x) s)
-            (stands_right image place (behind x) (parts place x) (parts_from parts behind (place + behind x) xs) (parts_long place x here) t)
+        one at place x here (lies_left image at (row place x) (rows_from row behind (place + behind x) xs) s)
+            (lies_left image place (parts place x) (parts_from parts behind (place + behind x) xs) t) past (omega (arith, h)) (omega (arith, k)),
+        rows_lie (at + width) (place + behind x) xs (all_rest P x xs are)
+            (lies_right image at width (row place x) (rows_from row behind (place + behind x) xs) (row_long place x) s)
+            (lies_right image place (behind x) (parts place x) (parts_from parts behind (place + behind x) xs) (parts_long place x here) t)
             (omega (arith, past)) (omega (arith, h)) (omega (arith, k)),
       )
 
-  pub table_stands : (at : ℕ) (xs : List X) → All P xs → Stands image at (table_words width row parts behind at xs) →
+  pub table_lies : (at : ℕ) (xs : List X) → All P xs → LiesAt image at (table_words width row parts behind at xs) →
       2 ≤ at → at + table_size width behind xs ≤ word image 0 → HasRows Has width at (length xs) xs
-  table_stands at xs are s past h =
+  table_lies at xs are s past h =
       let first : ℕ = at + width * length xs in
       let sum = table_total width behind xs in
-      let behind_rows = stands_right image at (width * length xs) (rows_from row behind first xs) (parts_from parts behind first xs)
+      let behind_rows = lies_right image at (width * length xs) (rows_from row behind first xs) (parts_from parts behind first xs)
       (rows_long P width row parts behind row_long parts_long first xs) s in
       record {
         size = refl;
-        each = rows_stand at first xs are (stands_left image at (rows_from row behind first xs) (parts_from parts behind first xs) s) behind_rows
+        each = rows_lie at first xs are (lies_left image at (rows_from row behind first xs) (parts_from parts behind first xs) s) behind_rows
             (omega (arith, past)) (omega (arith, h, sum)) (omega (arith, h, sum));
       }

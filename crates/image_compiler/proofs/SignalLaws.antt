@@ -12,9 +12,9 @@ use Rattle.image_words.specs.Image.{HasSignal, HasParent, HasRange, size_weight,
 use Rattle.image_compiler.specs.Size.{total, text_size, signal_behind, parent_behind}
 use Rattle.image_compiler.specs.Layout.{text_words, coding_row, coding_parts, parent_row, parent_parts, signal_row, signal_parts, signal_rows, parts_from, shape_word, order_flag, flag, reference}
 use Rattle.image_compiler.specs.Typed.{IsTypedSignal}
-use Rattle.image_compiler.proofs.ListLaws.{Stands, stands_first, stands_word, stands_left, stands_right, all_first, all_rest}
-use Rattle.image_compiler.proofs.TextLaws.{text_long, text_stands}
-use Rattle.image_compiler.proofs.RowLaws.{rows_at, coding_row_long, coding_parts_long, coding_stands, ranges_long, ranges_stand}
+use Rattle.image_compiler.proofs.ListLaws.{LiesAt, lies_first, lies_word, lies_left, lies_right, all_first, all_rest}
+use Rattle.image_compiler.proofs.TextLaws.{text_long, text_lies}
+use Rattle.image_compiler.proofs.RowLaws.{rows_at, coding_row_long, coding_parts_long, coding_lies, ranges_long, ranges_lie}
 
 abbrev pub IsGoodSignal : Signal → Type 0
 IsGoodSignal s = IsCoding s.coding × (KeepsSignalRules s × IsTypedSignal s)
@@ -91,66 +91,66 @@ shape_below w start size o false h k l e = omega (arith, h, k, l, e)
 
 -- ---- a signal
 
-signal_one : (words : List ℕ) (at place ranges : ℕ) (s : Signal) (p : Option Parent) → IsGoodSignal s → Stands words at (signal_row place ranges s p) →
-    Stands words place (signal_parts place s) → 2 ≤ place → place + signal_behind s ≤ word words 0 → at + signal_words ≤ word words 0 → HasSignal words at s
+signal_one : (words : List ℕ) (at place ranges : ℕ) (s : Signal) (p : Option Parent) → IsGoodSignal s → LiesAt words at (signal_row place ranges s p) →
+    LiesAt words place (signal_parts place s) → 2 ≤ place → place + signal_behind s ≤ word words 0 → at + signal_words ≤ word words 0 → HasSignal words at s
 signal_one words at place ranges s p good r t past h k =
     let rules = good.1.0 in
     let start : s.start < size_weight = omega (arith, rules.start) in
     let size : s.size < size_span = omega (arith, rules.size) in
     let w : ℕ = word words (at + 1) in
-    let here : w ≡ shape_word s = stands_word words at 1 _ (omega arith) r in
+    let here : w ≡ shape_word s = lies_word words at 1 _ (omega arith) r in
     let low = order_small s.order in
     let coding : List ℕ = coding_row (place + text_size s.name) s.coding in
     let head : List ℕ = reference place s.name ∷ shape_word s ∷ parent_row ranges p in
     let five : length head ≡ 5 = omega (arith, parent_row_long ranges p) in
     record {
       within = k;
-      name = text_stands words at place s.name good.1.1.name (omega (arith, rules.name.bytes)) (stands_first words at _ _ r)
-          (stands_left words place (text_words s.name) (coding_parts (place + text_size s.name) s.coding) t) past (omega (arith, h));
+      name = text_lies words at place s.name good.1.1.name (omega (arith, rules.name.bytes)) (lies_first words at _ _ r)
+          (lies_left words place (text_words s.name) (coding_parts (place + text_size s.name) s.coding) t) past (omega (arith, h));
       shape = shape_below w s.start s.size (order_flag s.order) s.signed start size low here;
       start = shape_start w s.start s.size (order_flag s.order) (flag s.signed) start here;
       size = shape_size w s.start s.size (order_flag s.order) (flag s.signed) start size here;
       order = shape_order w s.start s.size (flag s.signed) s.order start size here;
       signed = shape_sign w s.start s.size (order_flag s.order) s.signed start size low here;
       float = rules.no_float;
-      coding = coding_stands words (at + 5) (place + text_size s.name) s.coding good.0 rules.coding good.1.1.coding
-          (stands_right words at 5 head coding five r)
-          (stands_right words place (text_size s.name) (text_words s.name) (coding_parts (place + text_size s.name) s.coding) (text_long s.name) t)
+      coding = coding_lies words (at + 5) (place + text_size s.name) s.coding good.0 rules.coding good.1.1.coding
+          (lies_right words at 5 head coding five r)
+          (lies_right words place (text_size s.name) (text_words s.name) (coding_parts (place + text_size s.name) s.coding) (text_long s.name) t)
           (omega (arith, past)) (omega (arith, h));
     }
 
-parent_one : (words : List ℕ) (at place ranges : ℕ) (s : Signal) (p : Option Parent) → Stands words at (signal_row place ranges s p) →
-    Stands words ranges (parent_parts ranges p) → ranges + parent_behind p ≤ word words 0 → HasParent words at p
-parent_one words at place ranges s None r t h = stands_word words at 2 _ (omega arith) r
+parent_one : (words : List ℕ) (at place ranges : ℕ) (s : Signal) (p : Option Parent) → LiesAt words at (signal_row place ranges s p) →
+    LiesAt words ranges (parent_parts ranges p) → ranges + parent_behind p ≤ word words 0 → HasParent words at p
+parent_one words at place ranges s None r t h = lies_word words at 2 _ (omega arith) r
 parent_one words at place ranges s (Some p) r t h = record {
-  signal = stands_word words at 2 _ (omega arith) r;
+  signal = lies_word words at 2 _ (omega arith) r;
   rows = rows_at (HasRange words) range_words ranges (length p.ranges) (word words (at + 3)) (word words (at + 4)) p.ranges
-      (stands_word words at 3 _ (omega arith) r) (stands_word words at 4 _ (omega arith) r)
-      (record { size = refl; each = ranges_stand words ranges p.ranges t h });
+      (lies_word words at 3 _ (omega arith) r) (lies_word words at 4 _ (omega arith) r)
+      (record { size = refl; each = ranges_lie words ranges p.ranges t h });
 }
 
 -- ---- the signals of a message
 
-pub signals_stand : (words : List ℕ) (at place ranges : ℕ) (ss : List Signal) (ps : List (Option Parent)) → All IsGoodSignal ss → length ps ≡ length ss →
-    Stands words at (signal_rows place ranges ss ps) → Stands words place (parts_from signal_parts signal_behind place ss) →
-    Stands words ranges (parts_from parent_parts parent_behind ranges ps) → 2 ≤ place → place + total signal_behind ss ≤ word words 0 →
+pub signals_lie : (words : List ℕ) (at place ranges : ℕ) (ss : List Signal) (ps : List (Option Parent)) → All IsGoodSignal ss → length ps ≡ length ss →
+    LiesAt words at (signal_rows place ranges ss ps) → LiesAt words place (parts_from signal_parts signal_behind place ss) →
+    LiesAt words ranges (parts_from parent_parts parent_behind ranges ps) → 2 ≤ place → place + total signal_behind ss ≤ word words 0 →
     ranges + total parent_behind ps ≤ word words 0 → at + signal_words * length ss ≤ word words 0 →
     EachRow (HasSignal words) signal_words at ss × EachRow (HasParent words) signal_words at ps
 unfolding signal_rows parts_from total EachRow
-signals_stand words at place ranges [] [] are same r t u past h k l = (tt, tt)
-signals_stand words at place ranges [] (p ∷ ps) are same r t u past h k l = absurd (omega (arith, same))
-signals_stand words at place ranges (s ∷ ss) [] are same r t u past h k l = absurd (omega (arith, same))
-signals_stand words at place ranges (s ∷ ss) (p ∷ ps) are same r t u past h k l =
+signals_lie words at place ranges [] [] are same r t u past h k l = (tt, tt)
+signals_lie words at place ranges [] (p ∷ ps) are same r t u past h k l = absurd (omega (arith, same))
+signals_lie words at place ranges (s ∷ ss) [] are same r t u past h k l = absurd (omega (arith, same))
+signals_lie words at place ranges (s ∷ ss) (p ∷ ps) are same r t u past h k l =
     let good = all_first IsGoodSignal s ss are in
     let others : List ℕ = signal_rows (place + signal_behind s) (ranges + parent_behind p) ss ps in
     let parts : List ℕ = parts_from signal_parts signal_behind (place + signal_behind s) ss in
     let lists : List ℕ = parts_from parent_parts parent_behind (ranges + parent_behind p) ps in
-    let row = stands_left words at (signal_row place ranges s p) others r in
-    let rest = signals_stand words (at + signal_words) (place + signal_behind s) (ranges + parent_behind p) ss ps (all_rest IsGoodSignal s ss are) (omega (arith, same))
-    (stands_right words at signal_words (signal_row place ranges s p) others (signal_row_long place ranges s p) r)
-    (stands_right words place (signal_behind s) (signal_parts place s) parts (signal_parts_long place s) t)
-    (stands_right words ranges (parent_behind p) (parent_parts ranges p) lists (parent_parts_long ranges p) u)
+    let row = lies_left words at (signal_row place ranges s p) others r in
+    let rest = signals_lie words (at + signal_words) (place + signal_behind s) (ranges + parent_behind p) ss ps (all_rest IsGoodSignal s ss are) (omega (arith, same))
+    (lies_right words at signal_words (signal_row place ranges s p) others (signal_row_long place ranges s p) r)
+    (lies_right words place (signal_behind s) (signal_parts place s) parts (signal_parts_long place s) t)
+    (lies_right words ranges (parent_behind p) (parent_parts ranges p) lists (parent_parts_long ranges p) u)
     (omega (arith, past)) (omega (arith, h)) (omega (arith, k)) (omega (arith, l)) in (
-      (signal_one words at place ranges s p good row (stands_left words place (signal_parts place s) parts t) past (omega (arith, h)) (omega (arith, l)), rest.0),
-      (parent_one words at place ranges s p row (stands_left words ranges (parent_parts ranges p) lists u) (omega (arith, k)), rest.1),
+      (signal_one words at place ranges s p good row (lies_left words place (signal_parts place s) parts t) past (omega (arith, h)) (omega (arith, l)), rest.0),
+      (parent_one words at place ranges s p row (lies_left words ranges (parent_parts ranges p) lists u) (omega (arith, k)), rest.1),
     )

@@ -10,7 +10,7 @@ use Rattle.image_words.specs.Layout.{word, bytes_from, words_for, padded, length
 use Rattle.image_compiler.specs.Size.{text_size, optional_text_size}
 use Rattle.image_compiler.specs.Layout.{blocks, text_words, optional_text_words, reference, optional_reference}
 use Rattle.image_compiler.specs.Typed.{AreBytesIfThere}
-use Rattle.image_compiler.proofs.ListLaws.{Stands, stands_first, stands_next}
+use Rattle.image_compiler.proofs.ListLaws.{LiesAt, lies_first, lies_next}
 
 bytes_head : (words : List ℕ) (place n : ℕ) → bytes_from words place (suc n) ≡ to_le_bytes w64 (word words place) ++ bytes_from words (place + 1) n
 unfolding bytes_from
@@ -36,16 +36,16 @@ dropped_bytes zero bytes are i = are i
 dropped_bytes (suc n) [] are i = omega arith
 dropped_bytes (suc n) (b ∷ bytes) are i = dropped_bytes n bytes (λ j. are (suc j)) i
 
-blocks_stand : (words : List ℕ) (place n : ℕ) (bytes : List ℕ) → length bytes ≡ 8 * n → AreBytes bytes → Stands words place (blocks n bytes) → bytes_from words place n ≡ bytes
+blocks_lie : (words : List ℕ) (place n : ℕ) (bytes : List ℕ) → length bytes ≡ 8 * n → AreBytes bytes → LiesAt words place (blocks n bytes) → bytes_from words place n ≡ bytes
 unfolding bytes_from blocks
-blocks_stand words place zero bytes long are s = no_bytes bytes (omega (arith, long))
-blocks_stand words place (suc n) bytes long are s =
+blocks_lie words place zero bytes long are s = no_bytes bytes (omega (arith, long))
+blocks_lie words place (suc n) bytes long are s =
     let enough : 8 ≤ length bytes = omega (arith, long) in
     let rest : length (drop 8 bytes) ≡ 8 * n = omega (arith, long, length-drop 8 bytes) in
     let first : to_le_bytes w64 (word words place) ≡ take 8 bytes =
-    le_bytes_8 (take 8 bytes) (word words place) (length-take-le 8 bytes enough) (taken_bytes 8 bytes are) (stands_first words place _ _ s) in
+    le_bytes_8 (take 8 bytes) (word words place) (length-take-le 8 bytes enough) (taken_bytes 8 bytes are) (lies_first words place _ _ s) in
     let others : bytes_from words (place + 1) n ≡ drop 8 bytes =
-    blocks_stand words (place + 1) n (drop 8 bytes) rest (dropped_bytes 8 bytes are) (stands_next words place _ _ s) in
+    blocks_lie words (place + 1) n (drop 8 bytes) rest (dropped_bytes 8 bytes are) (lies_next words place _ _ s) in
     bytes_head words place n
     ∙ ap (λ (b : List ℕ). b ++ bytes_from words (place + 1) n) first
     ∙ ap (λ (b : List ℕ). take 8 bytes ++ b) others
@@ -78,10 +78,10 @@ optional_text_long None = refl
 optional_text_long (Some text) = text_long text
 
 -- the reference and the words
-pub text_stands : (words : List ℕ) (at place : ℕ) (text : List ℕ) → AreBytes text → length text < length_span → word words at ≡ reference place text →
-    Stands words place (text_words text) → header_words ≤ place → place + text_size text ≤ word words 0 → HasText words (word words at) text
+pub text_lies : (words : List ℕ) (at place : ℕ) (text : List ℕ) → AreBytes text → length text < length_span → word words at ≡ reference place text →
+    LiesAt words place (text_words text) → header_words ≤ place → place + text_size text ≤ word words 0 → HasText words (word words at) text
 unfolding text_words
-text_stands words at place text are short is s past inside =
+text_lies words at place text are short is s past inside =
     let count : word words at % length_span ≡ length text = omega (arith, is, short) in
     let spot : word words at / length_span ≡ place = omega (arith, is, short) in
     let all = joined_are text (replicate (8 * words_for (length text) - length text) 0) are (zeros_are (8 * words_for (length text) - length text)) in
@@ -90,11 +90,11 @@ text_stands words at place text are short is s past inside =
       within = λ some. omega (arith, spot, inside);
       empty = λ none. omega (arith, spot, past);
       content = ap (λ (p : ℕ). bytes_from words p (words_for (length text))) spot
-          ∙ blocks_stand words place (words_for (length text)) (padded text) (padded_long text) all s;
+          ∙ blocks_lie words place (words_for (length text)) (padded text) (padded_long text) all s;
     }
 
-pub optional_text_stands : (words : List ℕ) (at place : ℕ) (text : Option (List ℕ)) → AreBytesIfThere text → IsShortIfThere text →
-    word words at ≡ optional_reference place text → Stands words place (optional_text_words text) → header_words ≤ place →
+pub optional_text_lies : (words : List ℕ) (at place : ℕ) (text : Option (List ℕ)) → AreBytesIfThere text → IsShortIfThere text →
+    word words at ≡ optional_reference place text → LiesAt words place (optional_text_words text) → header_words ≤ place →
     place + optional_text_size text ≤ word words 0 → HasOptionalText words (word words at) text
-optional_text_stands words at place None are short is s past inside = is
-optional_text_stands words at place (Some text) are short is s past inside = text_stands words at place text are (omega (arith, short)) is s past inside
+optional_text_lies words at place None are short is s past inside = is
+optional_text_lies words at place (Some text) are short is s past inside = text_lies words at place text are (omega (arith, short)) is s past inside

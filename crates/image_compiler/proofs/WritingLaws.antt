@@ -43,34 +43,34 @@ all_none {X} P xs i h =
 
 -- ---- lists of rows
 
-pub rows_more : {X : Type 0} (row : ℕ → X → List ℕ) (behind : X → ℕ) (xs : List X) (i place next : ℕ) (x : X) (front after : List ℕ) → i < length xs → x ≡ get_or xs i x →
-    after ≡ front ++ row place x → next ≡ place + behind x →
-    front ++ rows_from row behind place (drop i xs) ≡ after ++ rows_from row behind next (drop (i + 1) xs)
+pub rows_more : {X : Type 0} (row : ℕ → X → List ℕ) (behind : X → ℕ) (xs : List X) (i place next : ℕ) (x : X) (prefix after : List ℕ) → i < length xs → x ≡ get_or xs i x →
+    after ≡ prefix ++ row place x → next ≡ place + behind x →
+    prefix ++ rows_from row behind place (drop i xs) ≡ after ++ rows_from row behind next (drop (i + 1) xs)
 unfolding rows_from
-rows_more {X} row behind xs i place next x front after h e f n =
-    ap (λ (ys : List X). front ++ rows_from row behind place ys) (next_of xs i x h e)
-    ∙ sym (append_assoc front (row place x) (rows_from row behind (place + behind x) (drop (i + 1) xs)))
+rows_more {X} row behind xs i place next x prefix after h e f n =
+    ap (λ (ys : List X). prefix ++ rows_from row behind place ys) (next_of xs i x h e)
+    ∙ sym (append_assoc prefix (row place x) (rows_from row behind (place + behind x) (drop (i + 1) xs)))
     ∙ ap (λ (words : List ℕ). words ++ rows_from row behind (place + behind x) (drop (i + 1) xs)) (sym f)
     ∙ ap (λ (p : ℕ). after ++ rows_from row behind p (drop (i + 1) xs)) (sym n)
 
-pub rows_none : {X : Type 0} (row : ℕ → X → List ℕ) (behind : X → ℕ) (xs : List X) (i place : ℕ) (front : List ℕ) → length xs ≤ i → front ≡ front ++ rows_from row behind place (drop i xs)
+pub rows_none : {X : Type 0} (row : ℕ → X → List ℕ) (behind : X → ℕ) (xs : List X) (i place : ℕ) (prefix : List ℕ) → length xs ≤ i → prefix ≡ prefix ++ rows_from row behind place (drop i xs)
 unfolding rows_from
-rows_none {X} row behind xs i place front h = sym (append-nil front) ∙ ap (λ (ys : List X). front ++ rows_from row behind place ys) (sym (drop_of_length-le xs h))
+rows_none {X} row behind xs i place prefix h = sym (append-nil prefix) ∙ ap (λ (ys : List X). prefix ++ rows_from row behind place ys) (sym (drop_of_length-le xs h))
 
-pub parts_more : {X : Type 0} (parts : ℕ → X → List ℕ) (behind : X → ℕ) (xs : List X) (i place next : ℕ) (x : X) (front after : List ℕ) → i < length xs → x ≡ get_or xs i x →
-    after ≡ front ++ parts place x → next ≡ place + behind x →
-    front ++ parts_from parts behind place (drop i xs) ≡ after ++ parts_from parts behind next (drop (i + 1) xs)
+pub parts_more : {X : Type 0} (parts : ℕ → X → List ℕ) (behind : X → ℕ) (xs : List X) (i place next : ℕ) (x : X) (prefix after : List ℕ) → i < length xs → x ≡ get_or xs i x →
+    after ≡ prefix ++ parts place x → next ≡ place + behind x →
+    prefix ++ parts_from parts behind place (drop i xs) ≡ after ++ parts_from parts behind next (drop (i + 1) xs)
 unfolding parts_from
-parts_more {X} parts behind xs i place next x front after h e f n =
-    ap (λ (ys : List X). front ++ parts_from parts behind place ys) (next_of xs i x h e)
-    ∙ sym (append_assoc front (parts place x) (parts_from parts behind (place + behind x) (drop (i + 1) xs)))
+parts_more {X} parts behind xs i place next x prefix after h e f n =
+    ap (λ (ys : List X). prefix ++ parts_from parts behind place ys) (next_of xs i x h e)
+    ∙ sym (append_assoc prefix (parts place x) (parts_from parts behind (place + behind x) (drop (i + 1) xs)))
     ∙ ap (λ (words : List ℕ). words ++ parts_from parts behind (place + behind x) (drop (i + 1) xs)) (sym f)
     ∙ ap (λ (p : ℕ). after ++ parts_from parts behind p (drop (i + 1) xs)) (sym n)
 
-pub parts_none : {X : Type 0} (parts : ℕ → X → List ℕ) (behind : X → ℕ) (xs : List X) (i place : ℕ) (front : List ℕ) → length xs ≤ i →
-    front ≡ front ++ parts_from parts behind place (drop i xs)
+pub parts_none : {X : Type 0} (parts : ℕ → X → List ℕ) (behind : X → ℕ) (xs : List X) (i place : ℕ) (prefix : List ℕ) → length xs ≤ i →
+    prefix ≡ prefix ++ parts_from parts behind place (drop i xs)
 unfolding parts_from
-parts_none {X} parts behind xs i place front h = sym (append-nil front) ∙ ap (λ (ys : List X). front ++ parts_from parts behind place ys) (sym (drop_of_length-le xs h))
+parts_none {X} parts behind xs i place prefix h = sym (append-nil prefix) ∙ ap (λ (ys : List X). prefix ++ parts_from parts behind place ys) (sym (drop_of_length-le xs h))
 
 -- ---- texts
 
@@ -116,44 +116,44 @@ eight_bytes text at n a b c d e f g h e0 e1 e2 e3 e4 e5 e6 e7 is =
       byte_there text at 7 (omega arith),
     )
 
-pub blocks_more : (bytes front after : List ℕ) (i n w : ℕ) → i < n → w ≡ from_le_bytes w64 (take 8 (drop (8 * i) bytes)) → after ≡ front ++ w ∷ [] →
-    front ++ blocks (n - i) (drop (8 * i) bytes) ≡ after ++ blocks (n - (i + 1)) (drop (8 * (i + 1)) bytes)
+pub blocks_more : (bytes prefix after : List ℕ) (i n w : ℕ) → i < n → w ≡ from_le_bytes w64 (take 8 (drop (8 * i) bytes)) → after ≡ prefix ++ w ∷ [] →
+    prefix ++ blocks (n - i) (drop (8 * i) bytes) ≡ after ++ blocks (n - (i + 1)) (drop (8 * (i + 1)) bytes)
 unfolding blocks
-blocks_more bytes front after i n w h e f =
+blocks_more bytes prefix after i n w h e f =
     let some : n - i ≡ suc (n - (i + 1)) = omega arith in
     let on : 8 * i + 8 ≡ 8 * (i + 1) = omega arith in
     let rest : drop 8 (drop (8 * i) bytes) ≡ drop (8 * (i + 1)) bytes = drop-drop 8 (8 * i) bytes ∙ ap (λ (k : ℕ). drop k bytes) on in
-    rw (some, f, e, rest) (sym (append_assoc front (from_le_bytes w64 (take 8 (drop (8 * i) bytes)) ∷ []) (blocks (n - (i + 1)) (drop (8 * (i + 1)) bytes))))
+    rw (some, f, e, rest) (sym (append_assoc prefix (from_le_bytes w64 (take 8 (drop (8 * i) bytes)) ∷ []) (blocks (n - (i + 1)) (drop (8 * (i + 1)) bytes))))
 
-pub blocks_none : (bytes front : List ℕ) (i n : ℕ) → n ≤ i → front ≡ front ++ blocks (n - i) (drop (8 * i) bytes)
+pub blocks_none : (bytes prefix : List ℕ) (i n : ℕ) → n ≤ i → prefix ≡ prefix ++ blocks (n - i) (drop (8 * i) bytes)
 unfolding blocks
-blocks_none bytes front i n h = let none : n - i ≡ 0 = omega arith in rw none (sym (append-nil front))
+blocks_none bytes prefix i n h = let none : n - i ≡ 0 = omega arith in rw none (sym (append-nil prefix))
 
 -- ---- ranges and signals
 
-pub ranges_more : (rs : List Range) (i : ℕ) (d : Range) (front after : List ℕ) → i < length rs → after ≡ front ++ (get_or rs i d).low ∷ (get_or rs i d).high ∷ [] →
-    front ++ ranges_words (drop i rs) ≡ after ++ ranges_words (drop (i + 1) rs)
+pub ranges_more : (rs : List Range) (i : ℕ) (d : Range) (prefix after : List ℕ) → i < length rs → after ≡ prefix ++ (get_or rs i d).low ∷ (get_or rs i d).high ∷ [] →
+    prefix ++ ranges_words (drop i rs) ≡ after ++ ranges_words (drop (i + 1) rs)
 unfolding ranges_words
-ranges_more rs i d front after h f =
+ranges_more rs i d prefix after h f =
     let r : Range = get_or rs i d in
-    ap (λ (ys : List Range). front ++ ranges_words ys) (drop_more rs i d h)
-    ∙ sym (append_assoc front (r.low ∷ r.high ∷ []) (ranges_words (drop (i + 1) rs)))
+    ap (λ (ys : List Range). prefix ++ ranges_words ys) (drop_more rs i d h)
+    ∙ sym (append_assoc prefix (r.low ∷ r.high ∷ []) (ranges_words (drop (i + 1) rs)))
     ∙ ap (λ (words : List ℕ). words ++ ranges_words (drop (i + 1) rs)) (sym f)
 
-pub ranges_none : (rs : List Range) (i : ℕ) (front : List ℕ) → length rs ≤ i → front ≡ front ++ ranges_words (drop i rs)
+pub ranges_none : (rs : List Range) (i : ℕ) (prefix : List ℕ) → length rs ≤ i → prefix ≡ prefix ++ ranges_words (drop i rs)
 unfolding ranges_words
-ranges_none rs i front h = sym (append-nil front) ∙ ap (λ (ys : List Range). front ++ ranges_words ys) (sym (drop_of_length-le rs h))
+ranges_none rs i prefix h = sym (append-nil prefix) ∙ ap (λ (ys : List Range). prefix ++ ranges_words ys) (sym (drop_of_length-le rs h))
 
-pub signals_more : (ss : List Signal) (ps : List (Option Parent)) (i place ranges place' ranges' : ℕ) (s : Signal) (p : Option Parent) (front after : List ℕ) →
-    i < length ss → i < length ps → s ≡ get_or ss i s → p ≡ get_or ps i p → after ≡ front ++ signal_row place ranges s p → place' ≡ place + signal_behind s →
+pub signals_more : (ss : List Signal) (ps : List (Option Parent)) (i place ranges place' ranges' : ℕ) (s : Signal) (p : Option Parent) (prefix after : List ℕ) →
+    i < length ss → i < length ps → s ≡ get_or ss i s → p ≡ get_or ps i p → after ≡ prefix ++ signal_row place ranges s p → place' ≡ place + signal_behind s →
     ranges' ≡ ranges + parent_behind p →
-    front ++ signal_rows place ranges (drop i ss) (drop i ps) ≡ after ++ signal_rows place' ranges' (drop (i + 1) ss) (drop (i + 1) ps)
+    prefix ++ signal_rows place ranges (drop i ss) (drop i ps) ≡ after ++ signal_rows place' ranges' (drop (i + 1) ss) (drop (i + 1) ps)
 unfolding signal_rows
-signals_more ss ps i place ranges place' ranges' s p front after h k e f g m n =
+signals_more ss ps i place ranges place' ranges' s p prefix after h k e f g m n =
     let rest : List ℕ = signal_rows (place + signal_behind s) (ranges + parent_behind p) (drop (i + 1) ss) (drop (i + 1) ps) in
-    ap (λ (ys : List Signal). front ++ signal_rows place ranges ys (drop i ps)) (next_of ss i s h e)
-    ∙ ap (λ (qs : List (Option Parent)). front ++ signal_rows place ranges (s ∷ drop (i + 1) ss) qs) (next_of ps i p k f)
-    ∙ sym (append_assoc front (signal_row place ranges s p) rest)
+    ap (λ (ys : List Signal). prefix ++ signal_rows place ranges ys (drop i ps)) (next_of ss i s h e)
+    ∙ ap (λ (qs : List (Option Parent)). prefix ++ signal_rows place ranges (s ∷ drop (i + 1) ss) qs) (next_of ps i p k f)
+    ∙ sym (append_assoc prefix (signal_row place ranges s p) rest)
     ∙ ap (λ (words : List ℕ). words ++ rest) (sym g)
     ∙ ap (λ (a : ℕ). after ++ signal_rows a (ranges + parent_behind p) (drop (i + 1) ss) (drop (i + 1) ps)) (sym m)
     ∙ ap (λ (a : ℕ). after ++ signal_rows place' a (drop (i + 1) ss) (drop (i + 1) ps)) (sym n)
@@ -167,32 +167,32 @@ no_signals : (place ranges : ℕ) (ps : List (Option Parent)) → signal_rows pl
 unfolding signal_rows
 no_signals place ranges ps = refl
 
-pub signals_none : (ss : List Signal) (ps : List (Option Parent)) (i place ranges : ℕ) (front : List ℕ) → min (length ss) (length ps) ≤ i →
-    front ≡ front ++ signal_rows place ranges (drop i ss) (drop i ps)
-signals_none ss ps i place ranges front h =
+pub signals_none : (ss : List Signal) (ps : List (Option Parent)) (i place ranges : ℕ) (prefix : List ℕ) → min (length ss) (length ps) ≤ i →
+    prefix ≡ prefix ++ signal_rows place ranges (drop i ss) (drop i ps)
+signals_none ss ps i place ranges prefix h =
     let none : signal_rows place ranges (drop i ss) (drop i ps) ≡ [] = elim (cases_lt i (length ss)) as (λ _. signal_rows place ranges (drop i ss) (drop i ps) ≡ []) [
       | inl less ↦ (let out : length ps ≤ i = omega (arith, h, less) in
           ap (λ (qs : List (Option Parent)). signal_rows place ranges (drop i ss) qs) (drop_of_length-le ps out) ∙ no_rows place ranges (drop i ss))
       | inr past ↦ ap (λ (ys : List Signal). signal_rows place ranges ys (drop i ps)) (drop_of_length-le ss past) ∙ no_signals place ranges (drop i ps)
     ] in
-    sym (append-nil front) ∙ ap (λ (words : List ℕ). front ++ words) (sym none)
+    sym (append-nil prefix) ∙ ap (λ (words : List ℕ). prefix ++ words) (sym none)
 
 -- ---- entries of indexes
 
-pub keys_more : (ms : List Message) (i value : ℕ) (m : Message) (front after : List ℕ) → i < length ms → m ≡ get_or ms i m →
-    value ≡ key_number m.key * 131072 + i → after ≡ front ++ value ∷ [] → front ++ key_entries i (drop i ms) ≡ after ++ key_entries (i + 1) (drop (i + 1) ms)
+pub keys_more : (ms : List Message) (i value : ℕ) (m : Message) (prefix after : List ℕ) → i < length ms → m ≡ get_or ms i m →
+    value ≡ key_number m.key * 131072 + i → after ≡ prefix ++ value ∷ [] → prefix ++ key_entries i (drop i ms) ≡ after ++ key_entries (i + 1) (drop (i + 1) ms)
 unfolding key_entries
-keys_more ms i value m front after h e v f =
+keys_more ms i value m prefix after h e v f =
     let next : suc i ≡ i + 1 = omega arith in
-    ap (λ (ys : List Message). front ++ key_entries i ys) (next_of ms i m h e)
-    ∙ ap (λ (k : ℕ). front ++ (key_number m.key * 131072 + i) ∷ key_entries k (drop (i + 1) ms)) next
-    ∙ ap (λ (n : ℕ). front ++ n ∷ key_entries (i + 1) (drop (i + 1) ms)) (sym v)
-    ∙ sym (append_assoc front (value ∷ []) (key_entries (i + 1) (drop (i + 1) ms)))
+    ap (λ (ys : List Message). prefix ++ key_entries i ys) (next_of ms i m h e)
+    ∙ ap (λ (k : ℕ). prefix ++ (key_number m.key * 131072 + i) ∷ key_entries k (drop (i + 1) ms)) next
+    ∙ ap (λ (n : ℕ). prefix ++ n ∷ key_entries (i + 1) (drop (i + 1) ms)) (sym v)
+    ∙ sym (append_assoc prefix (value ∷ []) (key_entries (i + 1) (drop (i + 1) ms)))
     ∙ ap (λ (words : List ℕ). words ++ key_entries (i + 1) (drop (i + 1) ms)) (sym f)
 
-pub keys_none : (ms : List Message) (i : ℕ) (front : List ℕ) → length ms ≤ i → front ≡ front ++ key_entries i (drop i ms)
+pub keys_none : (ms : List Message) (i : ℕ) (prefix : List ℕ) → length ms ≤ i → prefix ≡ prefix ++ key_entries i (drop i ms)
 unfolding key_entries
-keys_none ms i front h = sym (append-nil front) ∙ ap (λ (ys : List Message). front ++ key_entries i ys) (sym (drop_of_length-le ms h))
+keys_none ms i prefix h = sym (append-nil prefix) ∙ ap (λ (ys : List Message). prefix ++ key_entries i ys) (sym (drop_of_length-le ms h))
 
 -- of a message that is extended, and of one that is not
 entries_extended : (b : Bool) (xs ys : List ℕ) → b ≡ true → (if b then xs else ys) ≡ xs
@@ -225,13 +225,13 @@ pub groups_none : (ms : List Message) (i : ℕ) → length ms ≤ i → group_en
 unfolding group_entries
 groups_none ms i h = ap (group_entries i) (drop_of_length-le ms h)
 
-pub group_more : (ms : List Message) (i value : ℕ) (m : Message) (front after : List ℕ) → i < length ms → m ≡ get_or ms i m → m.key.extended ≡ true →
-    value ≡ group_of m.key.id * 131072 + i → after ≡ front ++ value ∷ [] → front ++ group_entries i (drop i ms) ≡ after ++ group_entries (i + 1) (drop (i + 1) ms)
-group_more ms i value m front after h e x v f =
-    ap (λ (words : List ℕ). front ++ words) (group_here ms i m h e x)
-    ∙ ap (λ (n : ℕ). front ++ n ∷ group_entries (i + 1) (drop (i + 1) ms)) (sym v)
-    ∙ sym (append_assoc front (value ∷ []) (group_entries (i + 1) (drop (i + 1) ms)))
+pub group_more : (ms : List Message) (i value : ℕ) (m : Message) (prefix after : List ℕ) → i < length ms → m ≡ get_or ms i m → m.key.extended ≡ true →
+    value ≡ group_of m.key.id * 131072 + i → after ≡ prefix ++ value ∷ [] → prefix ++ group_entries i (drop i ms) ≡ after ++ group_entries (i + 1) (drop (i + 1) ms)
+group_more ms i value m prefix after h e x v f =
+    ap (λ (words : List ℕ). prefix ++ words) (group_here ms i m h e x)
+    ∙ ap (λ (n : ℕ). prefix ++ n ∷ group_entries (i + 1) (drop (i + 1) ms)) (sym v)
+    ∙ sym (append_assoc prefix (value ∷ []) (group_entries (i + 1) (drop (i + 1) ms)))
     ∙ ap (λ (words : List ℕ). words ++ group_entries (i + 1) (drop (i + 1) ms)) (sym f)
 
-pub groups_end : (ms : List Message) (i : ℕ) (front : List ℕ) → length ms ≤ i → front ≡ front ++ group_entries i (drop i ms)
-groups_end ms i front h = sym (append-nil front) ∙ ap (λ (words : List ℕ). front ++ words) (sym (groups_none ms i h))
+pub groups_end : (ms : List Message) (i : ℕ) (prefix : List ℕ) → length ms ≤ i → prefix ≡ prefix ++ group_entries i (drop i ms)
+groups_end ms i prefix h = sym (append-nil prefix) ∙ ap (λ (words : List ℕ). prefix ++ words) (sym (groups_none ms i h))

@@ -1,4 +1,4 @@
--- The words that are written for a bench. The rows of a list stand one after another; behind them stands, in the same
+-- The words that are written for a bench. The rows of a list are one after another; behind them is, in the same
 -- order, what each of them refers to.
 use Rattle.std.specs.Prelude.{ℕ, zero, suc, ◌+◌, ◌*◌, Bool, ℤ, pos, negsuc, if◌then◌else◌, List, [], ◌∷◌, ◌++◌, length, take, drop, Option, Some, None, nat_le}
 use Rattle.std.specs.Int.{w64, from_le_bytes, cast_unsigned}
@@ -43,7 +43,7 @@ abbrev pub optional_reference : ℕ → Option (List ℕ) → ℕ
 optional_reference place None = 0
 optional_reference place (Some text) = reference place text
 
--- the rows of a list, where what they refer to stands one after another from a place on
+-- the rows of a list, where what they refer to is one after another from a place on
 unfoldable pub rows_from : {X : Type 0} → (ℕ → X → List ℕ) → (X → ℕ) → ℕ → List X → List ℕ
 rows_from row behind place [] = []
 rows_from row behind place (x ∷ xs) = row place x ++ rows_from row behind (place + behind x) xs
@@ -80,7 +80,7 @@ entry_parts place (Logical raw text) = optional_text_words text
 entry_parts place (Physical low high scale unit) = text_words unit
 entry_parts place Plain = []
 
--- the last seven words of a signal's row: the unit stands before the labels
+-- the last seven words of a signal's row: the unit is before the labels
 abbrev pub coding_row : ℕ → Coding → List ℕ
 coding_row place (Scaled scale unit labels) =
     0 ∷ (place + text_size unit) ∷ length labels ∷ cast_unsigned w64 scale.factor ∷ cast_unsigned w64 scale.offset ∷ scale.k
@@ -129,7 +129,7 @@ signal_rows place ranges (s ∷ ss) [] = []
 signal_rows place ranges (s ∷ ss) (p ∷ parents) =
     signal_row place ranges s p ++ signal_rows (place + signal_behind s) (ranges + parent_behind p) ss parents
 
--- behind the rows stands what the signals refer to, and behind that the ranges of the parents
+-- behind the rows is what the signals refer to, and behind that the ranges of the parents
 abbrev pub signals_words : ℕ → Message → List ℕ
 signals_words place m =
     let first = place + signal_words * length m.signals in
@@ -159,7 +159,7 @@ kind_number Can = 0
 kind_number J1939 = 1
 kind_number Lin = 2
 
--- behind the name of a bus stand its messages, the index by keys and the index by groups
+-- behind the name of a bus are its messages, the index by keys and the index by groups
 abbrev pub bus_row : ℕ → Bus → List ℕ
 bus_row place bus =
     let ms = bus.database.messages in

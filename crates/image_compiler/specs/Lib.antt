@@ -1,4 +1,4 @@
--- the size of an image, and what stands in it
+-- the size of an image, and what is in it
 pub mod Size
 pub mod Layout
 -- when there is none

@@ -124,7 +124,7 @@ pub(crate) fn coding_size(coding: &Coding) -> Result<u64, AllocError>
     }
 }
 
-/// The last seven words of a signal's row, where what its coding refers to stands from a place on.
+/// The last seven words of a signal's row, where what its coding refers to is from a place on.
 pub(crate) fn write_coding(
     out: &mut Vec<u64>,
     place: u64,

@@ -23,17 +23,17 @@ pub(crate) trait Parts {
         ensures size { IfOk result (λ n. n ≡ behind self.now) }
         ensures typed { OnOk result (is_typed self.now) };
 
-    /// The words that its row refers to, which stand from a place on.
+    /// The words that its row refers to, which are from a place on.
     fn write_parts(&self, alloc: Global, out: &mut Vec<u64>, place: u64) -> Result<(), AllocError>
         ensures { OnOk result (out.new.items ≡ out.old.items ++ parts place self.now) };
 }
 
 /// A part of a bench with a row of its own.
 pub(crate) trait Row: Parts {
-    /// The row, where what it refers to stands from a place on.
+    /// The row, where what it refers to is from a place on.
     ghost row_words: { ℕ → Self → List ℕ };
 
-    /// The row, where what it refers to stands from a place on.
+    /// The row, where what it refers to is from a place on.
     fn write_row(&self, out: &mut Vec<u64>, place: u64) -> Result<(), AllocError>
         ensures { OnOk result (out.new.items ≡ out.old.items ++ row_words place self.now) };
 }
@@ -60,7 +60,7 @@ pub(crate) fn table_size<T: Parts>(width: usize, rows: &[T]) -> Result<u64, Allo
     place_behind(behind, width, rows.len())
 }
 
-/// The rows, where what they refer to stands from a place on.
+/// The rows, where what they refer to is from a place on.
 fn write_rows<T: Row>(out: &mut Vec<u64>, first: u64, rows: &[T]) -> Result<(), AllocError>
     ensures { OnOk result (out.new.items ≡ out.old.items ++ rows_from T.row_words T.behind first rows.now) }
 {

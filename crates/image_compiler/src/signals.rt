@@ -90,7 +90,7 @@ fn shape_of(signal: &Signal) -> u64
     u64::from(signal.start) + u64::from(signal.size) * SIZE_WEIGHT + order + sign
 }
 
-/// The three words of a signal's row on its parent, whose ranges stand at a place.
+/// The three words of a signal's row on its parent, whose ranges are at a place.
 fn write_parent(out: &mut Vec<u64>, place: u64, parent: &Option<Parent>) -> Result<(), AllocError>
     ensures { OnOk result (out.new.items ≡ out.old.items ++ parent_row place parent.now) }
 {
@@ -103,7 +103,7 @@ fn write_parent(out: &mut Vec<u64>, place: u64, parent: &Option<Parent>) -> Resu
     }
 }
 
-/// The row of a signal, where what it refers to and its parent's ranges stand from two places on.
+/// The row of a signal, where what it refers to and its parent's ranges are from two places on.
 fn write_signal(
     out: &mut Vec<u64>,
     place: u64,

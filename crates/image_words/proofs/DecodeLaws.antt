@@ -174,7 +174,7 @@ found_none ms (Some m) h = absurd h
 one_message : (ms : List Message) (position : ℕ) (a b : Message) → slice_get ms position ≡ Some a → slice_get ms position ≡ Some b → a ≡ b
 one_message ms position a b e f = cc
 
--- the message that is found stands in its row
+-- the message that is found is in its row
 pub message_there : (image : List ℕ) (row : BusRow) (b : Bus) (ask : Ask) (position : ℕ) → BusOf row image b →
     IsFoundAt b.database.messages (Some position) (matching b.kind ask b.database.messages) →
     (m : Message) × (matching b.kind ask b.database.messages ≡ Some m) × MessageAt (row.messages_at + 5 * position) image m

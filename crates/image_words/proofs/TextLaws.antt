@@ -7,7 +7,7 @@ use Rattle.image_words.specs.Layout.{word, bytes_from, words_for, padded, length
 use Rattle.image_words.specs.Knowledge.{Knowledge, SomeFits}
 use Rattle.image_words.specs.Reading.{EachHas, TextAt}
 
--- bytes read so far behind what stood before
+-- bytes read so far behind what was before
 pub bytes_none : (image : List ℕ) (at : ℕ) (before : List ℕ) → before ≡ before ++ bytes_from image at 0
 unfolding bytes_from
 bytes_none image at before = sym (append-nil before)
@@ -55,7 +55,7 @@ text_within k reference i some has h =
     let within = text.1.within there in
     omega (arith, h, within, text.1.size, some.fits.encodes.whole, some.fits.size)
 
--- the first bytes of all are those of the text behind what stood before
+-- the first bytes of all are those of the text behind what was before
 pub text_appended : (image : List ℕ) (reference i : ℕ) (before bytes text : List ℕ) → bytes ≡ before ++ bytes_from image (reference / length_span) i →
     i ≡ words_for (reference % length_span) → HasText image reference text → take (length before + reference % length_span) bytes ≡ before ++ text
 text_appended image reference i before bytes text e last has =

@@ -1,4 +1,4 @@
--- What fits where all words of a list are known, and where the rows of a valid bench stand.
+-- What fits where all words of a list are known, and where the rows of a valid bench are.
 use Rattle.std.proofs.Common.{◌≡◌, ℕ, suc, ◌+◌, ◌*◌, List, [], ◌∷◌, length, Some, refl, sym, subst, arith}
 use Rattle.std.specs.Prelude.{slice_get, All}
 use Rattle.std.proofs.lemmas.Option.{slice_get_within}

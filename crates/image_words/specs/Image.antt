@@ -1,4 +1,4 @@
--- Which bench an image encodes. Each part of the bench is a function of the image's words; the parts stand in
+-- Which bench an image encodes. Each part of the bench is a function of the image's words; the parts are in
 -- any order.
 use Rattle.std.specs.Prelude.{◌≡◌, ℕ, ◌+◌, ◌*◌, ◌/◌, ◌%◌, ◌^◌, ◌<◌, ◌≤◌, ◌==◌, ℤ, pos, ◌-ℤ◌, Bool, false, if◌then◌else◌, List, length, Option, Some, None}
 use Rattle.std.specs.Int.{w64, cast_signed}

@@ -4,7 +4,7 @@ pub mod Index
 pub mod Image
 -- what is known of a list of words
 pub mod Knowledge
--- all words of a list, and where its rows stand
+-- all words of a list, and where its rows are
 pub mod Whole
 -- what a visitor of a frame's meaning is given
 pub mod Visits

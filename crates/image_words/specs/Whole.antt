@@ -1,4 +1,4 @@
--- What is known where all words of a list are known, and where in it the rows stand.
+-- What is known where all words of a list are known, and where in it the rows are.
 use Rattle.std.specs.Prelude.{ℕ, ◌+◌, ◌*◌, List, length, slice_get, slice_index}
 use Rattle.image_words.specs.Layout.{word, header_words, bus_words, message_words, signal_words}
 use Rattle.image_words.specs.Knowledge.{Knowledge}

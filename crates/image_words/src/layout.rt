@@ -34,13 +34,13 @@ pub const POSITION_SPAN: u64 = 131_072;
 /// What the number of an extended key has more than its identifier, which has 32 bits.
 pub const EXTENDED_FROM: u64 = 1 << 32;
 
-/// In the shape of a signal its start has 16 bits; behind them stands its size.
+/// In the shape of a signal its start has 16 bits; behind them is its size.
 pub const SIZE_WEIGHT: u64 = 1 << 16;
 
 /// The size has eight bits.
 pub const SIZE_SPAN: u64 = 1 << 8;
 
-/// Behind the size stands whether the signal is big-endian.
+/// Behind the size is whether the signal is big-endian.
 pub const ORDER_WEIGHT: u64 = 1 << 24;
 
 /// And behind that whether it is signed.

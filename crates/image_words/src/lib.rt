@@ -1,7 +1,7 @@
 //! Images of a bench: a list of words that encodes one, and the decoding of frames straight from the words.
 //!
 //! A bench is kept where versions of it are exchanged as a list of words of 64 bits. `Words` reads such a list
-//! word by word, whatever keeps it; `image_compiler` writes one. The crate stands on `bench_model`, whose types
+//! word by word, whatever keeps it; `image_compiler` writes one. The crate builds on `bench_model`, whose types
 //! and meaning it speaks of, on `exact_scale` and on `multiplex_tree`.
 //!
 //! Main theorem: where some list fits the words known, `walk` gives a visitor, and `decode` gives as a value of its

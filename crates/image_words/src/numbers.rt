@@ -10,7 +10,7 @@ use bench_model::Key;
 /// What one byte of an identifier counts.
 const BYTE_SPAN: u32 = 1 << 8;
 
-/// Where the PDU format of an identifier stands.
+/// Where the PDU format of an identifier is.
 const FORMAT_WEIGHT: u32 = 1 << 16;
 
 /// The first PDU format whose PDU specific byte is part of the group.

@@ -9,7 +9,7 @@ ghost use Rattle.image_words.specs.Knowledge.{SomeFits, Narrows, Holds};
 use crate::Words;
 use crate::rows::level_at;
 
-/// The raw value of the signal whose row stands at a place, in these bytes; none exactly where one of its
+/// The raw value of the signal whose row is at a place, in these bytes; none exactly where one of its
 /// bits lies past them. It takes no memory.
 pub fn raw_of<W: Words>(words: &mut W, row: usize, bytes: &[u8]) -> Option<i128>
     requires some { SomeFits (W.knows words.old) }

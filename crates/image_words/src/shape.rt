@@ -1,4 +1,4 @@
-//! The shape of a signal, which says where its bits stand, and its raw value by a shift and a mask of whole
+//! The shape of a signal, which says where its bits are, and its raw value by a shift and a mask of whole
 //! bytes.
 
 ghost use Rattle.std.specs.Prelude.{◌≡◌, ◌≤◌, ◌<◌, ◌+◌, ◌-◌, ◌*◌, ◌/◌, ◌%◌, ◌^◌, ◌&&◌, length, IfSome, nat_le};
@@ -14,7 +14,7 @@ use crate::joining::{big_endian, little_endian};
 use crate::layout::{ORDER_WEIGHT, SIGN_WEIGHT, SIZE_SPAN, SIZE_WEIGHT};
 use bench_model::{Order, raw_by_shift};
 
-/// Where a signal's bits stand in a frame, and whether they are a signed number.
+/// Where a signal's bits are in a frame, and whether they are a signed number.
 #[derive(Clone, Copy)]
 pub(crate) struct Shape {
     start: u32,

@@ -20,7 +20,7 @@ pub trait Visit {
     fn message(&mut self, name: &[u8]) -> Result<(), AllocError>
         ensures { OnOk result (names self.old name.now self.new) };
 
-    /// Takes a signal's value, whose texts stand in buffers that the next value is written over.
+    /// Takes a signal's value, whose texts are in buffers that the next value is written over.
     fn signal(&mut self, value: &ValueBuffer) -> Result<(), AllocError>
         ensures { OnOk result (takes self.old (value_in value.now) self.new) };
 }

@@ -80,7 +80,7 @@ fn walk_signals<W: Words, V: Visit>(
     Ok(())
 }
 
-/// Gives the visitor what the bytes mean as the message whose row stands at a place.
+/// Gives the visitor what the bytes mean as the message whose row is at a place.
 fn walk_message<W: Words, V: Visit>(
     words: &mut W,
     at: usize,

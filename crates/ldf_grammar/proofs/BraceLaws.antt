@@ -5,7 +5,7 @@ use Rattle.std.proofs.lemmas.Option.{none-some}
 use Rattle.std.proofs.lemmas.List.Elements.{All-nil, All-cons, All-head, All-tail}
 use Rattle.sig_text.specs.declared.token.Token.{Token}
 use Rattle.token_forms.specs.Pieces.{token_text}
-use Rattle.token_forms.specs.Stands.{◌▸◌, Quoted}
+use Rattle.token_forms.specs.Grammar.{◌▸◌, Quoted}
 use Rattle.ldf_grammar.specs.Statements.{Part, Tokens, IsOpening, IsClosing, InPairs, no_tokens, other_token, in_braces, StaysInLine}
 use Rattle.ldf_grammar.specs.StatementForms as marks
 use Rattle.ldf_grammar.specs.StatementForms.{Mark, mark_of, line_by, after_line, section_by, after_section}
@@ -47,12 +47,12 @@ line_step text token tail rest (is_end no_opening no_closing is mark) later e =
     (token ∷ tail, ([], refl, All-nil (StaysInLine text)), (token, (ap (λ (ts : List Token). token ∷ ts) same, is)))
 line_step text token tail rest (is_neither no_opening no_closing no_end mark) later e =
     let found = later rest (sym (ap (λ (m : Mark). line_by m tail (after_line text tail)) mark) ∙ e) in
-    let front = found.1 in (
+    let prefix = found.1 in (
       found.0,
       (
-        token ∷ front.0,
-        ap (λ (ts : List Token). token ∷ ts) front.1,
-        All-cons (StaysInLine text) token front.0 (no_end, no_opening, no_closing) front.2,
+        token ∷ prefix.0,
+        ap (λ (ts : List Token). token ∷ ts) prefix.1,
+        All-cons (StaysInLine text) token prefix.0 (no_end, no_opening, no_closing) prefix.2,
       ),
       found.2,
     )
@@ -73,22 +73,22 @@ pass_mark word no_end no_opening no_closing (is_neither unopened unclosed unende
 
 line_ends : (text : List ℕ) (tokens rest : List Token) → Quoted text (codes ";") tokens rest → after_line text tokens ≡ Some rest
 unfolding after_line
-line_ends text tokens rest (token, (front, is)) =
-    ap (after_line text) front ∙ ap (λ (m : Mark). line_by m rest (after_line text rest)) (end_mark text token is)
+line_ends text tokens rest (token, (prefix, is)) =
+    ap (after_line text) prefix ∙ ap (λ (m : Mark). line_by m rest (after_line text rest)) (end_mark text token is)
 
-line_passes : (text : List ℕ) (front tokens rest : List Token) → All (StaysInLine text) front → after_line text tokens ≡ Some rest
-    → after_line text (front ++ tokens) ≡ Some rest
+line_passes : (text : List ℕ) (prefix tokens rest : List Token) → All (StaysInLine text) prefix → after_line text tokens ≡ Some rest
+    → after_line text (prefix ++ tokens) ≡ Some rest
 unfolding after_line
 line_passes text [] tokens rest stays e = e
-line_passes text (token ∷ front) tokens rest stays e =
-    let here : StaysInLine text token = All-head (StaysInLine text) token front stays in
+line_passes text (token ∷ prefix) tokens rest stays e =
+    let here : StaysInLine text token = All-head (StaysInLine text) token prefix stays in
     let mark = pass_mark (token_text text token) here.0 here.1 here.2 (marked (token_text text token)) in
-    ap (λ (m : Mark). line_by m (front ++ tokens) (after_line text (front ++ tokens))) mark
-    ∙ line_passes text front tokens rest (All-tail (StaysInLine text) token front stays) e
+    ap (λ (m : Mark). line_by m (prefix ++ tokens) (after_line text (prefix ++ tokens))) mark
+    ∙ line_passes text prefix tokens rest (All-tail (StaysInLine text) token prefix stays) e
 
 pub line_there : (text : List ℕ) (tokens rest : List Token) → LineRest text tokens rest → after_line text tokens ≡ Some rest
-line_there text tokens rest (middle, (front, is, stays), ending) =
-    ap (after_line text) is ∙ line_passes text front middle rest stays (line_ends text middle rest ending)
+line_there text tokens rest (middle, (prefix, is, stays), ending) =
+    ap (after_line text) is ∙ line_passes text prefix middle rest stays (line_ends text middle rest ending)
 
 -- ---- the rest of a section
 
@@ -102,20 +102,20 @@ Rests text (suc depth) tokens rest = (SectionRest text ▸ Rests text depth) tok
 
 -- tokens before a section's rest that leave braces in pairs
 abbrev Widens : List ℕ → List Token → Type 0
-Widens text front = (inner : List Token) → InPairs text inner → InPairs text (front ++ inner)
+Widens text prefix = (inner : List Token) → InPairs text inner → InPairs text (prefix ++ inner)
 
-widen_rest : (text : List ℕ) (front tokens rest : List Token) → Widens text front → SectionRest text tokens rest → SectionRest text (front ++ tokens) rest
-widen_rest text front tokens rest widens (middle, (inner, is, pairs), closing) = (
+widen_rest : (text : List ℕ) (prefix tokens rest : List Token) → Widens text prefix → SectionRest text tokens rest → SectionRest text (prefix ++ tokens) rest
+widen_rest text prefix tokens rest widens (middle, (inner, is, pairs), closing) = (
   middle,
-  (front ++ inner, ap (λ (ts : List Token). front ++ ts) is ∙ sym (append_assoc front inner middle), widens inner pairs),
+  (prefix ++ inner, ap (λ (ts : List Token). prefix ++ ts) is ∙ sym (append_assoc prefix inner middle), widens inner pairs),
   closing,
 )
 
-widen : (text : List ℕ) (depth : ℕ) (front tokens rest : List Token) → Widens text front → Rests text depth tokens rest → Rests text depth (front ++ tokens) rest
-widen text zero front tokens rest widens there = widen_rest text front tokens rest widens there
-widen text (suc depth) front tokens rest widens (middle, one, later) = (middle, widen_rest text front tokens middle widens one, later)
+widen : (text : List ℕ) (depth : ℕ) (prefix tokens rest : List Token) → Widens text prefix → Rests text depth tokens rest → Rests text depth (prefix ++ tokens) rest
+widen text zero prefix tokens rest widens there = widen_rest text prefix tokens rest widens there
+widen text (suc depth) prefix tokens rest widens (middle, one, later) = (middle, widen_rest text prefix tokens middle widens one, later)
 
--- a pair of braces with what stands between them
+-- a pair of braces with what is between them
 pair_widens : (text : List ℕ) (first last : Token) (inner : List Token) → IsOpening text first → InPairs text inner → IsClosing text last
     → Widens text (first ∷ inner ++ last ∷ [])
 pair_widens text first last inner is_open pairs is_close more later =
@@ -124,11 +124,11 @@ pair_widens text first last inner is_open pairs is_close more later =
 
 opens : (text : List ℕ) (depth : ℕ) (first : Token) (tail rest : List Token) → IsOpening text first → Rests text (suc depth) tail rest
     → Rests text depth (first ∷ tail) rest
-opens text depth first tail rest is_open (middle, (start, (inner, is, pairs), (last, (front, is_close))), later) =
+opens text depth first tail rest is_open (middle, (start, (inner, is, pairs), (last, (prefix, is_close))), later) =
     let P : List Token → Type 0 = λ ts. Rests text depth ts rest in
     let wide = widen text depth (first ∷ inner ++ last ∷ []) middle rest (pair_widens text first last inner is_open pairs is_close) later in
     let same : first ∷ (inner ++ last ∷ []) ++ middle ≡ first ∷ tail =
-    ap (λ (ts : List Token). first ∷ ts) (append_assoc inner (last ∷ []) middle ∙ ap (λ (ts : List Token). inner ++ ts) (sym front) ∙ sym is) in
+    ap (λ (ts : List Token). first ∷ ts) (append_assoc inner (last ∷ []) middle ∙ ap (λ (ts : List Token). inner ++ ts) (sym prefix) ∙ sym is) in
     subst P same wide
 
 closes : (text : List ℕ) (token : Token) (tail : List Token) → IsClosing text token → SectionRest text (token ∷ tail) tail
@@ -211,5 +211,5 @@ pairs_pass text (in_braces {inner = inner} {rest = rest} first last is_open with
     ∙ pairs_pass text more depth tail
 
 pub section_there : (text : List ℕ) (tokens rest : List Token) → SectionRest text tokens rest → after_section text 0 tokens ≡ Some rest
-section_there text tokens rest (middle, (inner, is, pairs), (last, (front, is_close))) =
-    ap (after_section text 0) is ∙ pairs_pass text pairs 0 middle ∙ ap (after_section text 0) front ∙ closing_ends text last rest is_close
+section_there text tokens rest (middle, (inner, is, pairs), (last, (prefix, is_close))) =
+    ap (after_section text 0) is ∙ pairs_pass text pairs 0 middle ∙ ap (after_section text 0) prefix ∙ closing_ends text last rest is_close

@@ -23,7 +23,7 @@ use Rattle.ldf_grammar.specs.declared.fault.LdfFault.TheVariants as faults
 use Rattle.ldf_grammar.proofs.MadeLaws.{all_made}
 use Rattle.ldf_grammar.proofs.RunLaws.{statement_takes}
 use Rattle.ldf_grammar.proofs.PartLaws.{no_some}
-use Rattle.ldf_grammar.proofs.RowLaws.{run_stands}
+use Rattle.ldf_grammar.proofs.RowLaws.{run_parses}
 use Rattle.ldf_grammar.proofs.OneLaws.{Below, codes_decide}
 
 abbrev Described : List ℕ → Type 0
@@ -51,7 +51,7 @@ stated_text below trees verdict text s whole = elim ((codes_decide below text).s
 
 run_text : (below : Below) → ((n : ℕ) → IsTreeOver n (replicate n None)) → ((d : Database) → IsMadeDatabase d → IsValid d ⊎ ((f : CheckFault) × IsFirstFault d f))
     → (text : List ℕ) (tokens : List Token) → IsTokens text true tokens → (xs : List Statement) (left : List Token) → AllRows text xs tokens left → Described text
-run_text below trees verdict text tokens lexed xs [] there = stated_text below trees verdict text xs (record { tokens = tokens; lexed = lexed; stand = there })
+run_text below trees verdict text tokens lexed xs [] there = stated_text below trees verdict text xs (record { tokens = tokens; lexed = lexed; parse = there })
 run_text below trees verdict text tokens lexed xs (token ∷ later) there =
     inr (faults.Statement token.at, record { tokens = tokens; lexed = lexed; broken = cut_short there.0 there.1 (record { found = xs; token = token; later = later; each = there.2; place = refl }) })
 
@@ -69,7 +69,7 @@ opened_text below runs trees verdict text tokens (Some rest) lexed e =
     let found = run_of (whole_statement text) rest in
     let longest = runs (whole_statement text) rest (statement_takes text) in
     run_text below trees verdict text tokens lexed found.0 found.1
-    (rest, (below.rows.first text tokens rest).0 e, run_stands below.rows text rest found.0 found.1 longest)
+    (rest, (below.rows.first text tokens rest).0 e, run_parses below.rows text rest found.0 found.1 longest)
 
 pub some_description : (below : Below) → AreLongest → ((n : ℕ) → IsTreeOver n (replicate n None)) → ((d : Database) → IsMadeDatabase d → IsValid d ⊎ ((f : CheckFault) × IsFirstFault d f))
     → ((text : List ℕ) (comments : Bool) → ((list : List Token) × IsTokens text comments list) ⊎ ((f : LexFault) × IsLexFault text comments f)) → (text : List ℕ)

@@ -1,4 +1,4 @@
--- What the form of a row finds stands there, a lemma a form.
+-- What the form of a row finds is there, a lemma a form.
 use Rattle.std.proofs.Common.{◌≡◌, ◌∙◌, sym, ap, refl, subst, ℕ, ◌⊎◌, inl, inr, Bool, true, false, List, ◌∷◌, length}
 use Rattle.std.specs.Prelude.{Option, Some, None, codes}
 use Rattle.sig_text.specs.declared.token.Token.{Token}
@@ -9,7 +9,7 @@ use Rattle.ldf_grammar.specs.Sizes.{EntryKind, greatest_number, most_bits, last_
 use Rattle.ldf_grammar.specs.LineForms.{next_word, next_number, next_signed, array_value, number_value, initial_value, signal_size, signal_line, frame_signal}
 use Rattle.ldf_grammar.specs.LineForms.{frame_id, frame_length, frame, string_end, plain_end, last_string, logical, physical, entry_by, entry, word_before}
 use Rattle.ldf_grammar.specs.LineForms.{encoding, representation}
-use Rattle.token_forms.specs.Stands.{◌▸◌, Any, One, Quoted, IsWord, IsString, NumberUpTo}
+use Rattle.token_forms.specs.Grammar.{◌▸◌, Any, One, Quoted, IsWord, IsString, NumberUpTo}
 use Rattle.ldf_grammar.specs.Statements.{Part, UpTo, Says, Keyword, NextWord, NextNumber, NextSigned, Init, SignalRow, FrameSignalRow, FrameRow, LastString}
 use Rattle.ldf_grammar.specs.Statements.{EntryRow, EncodingRow, RepresentationRow}
 use Rattle.ldf_grammar.specs.declared.statement.EncodingEntry.{EncodingEntry}
@@ -286,7 +286,7 @@ module _ (pieces : Pieces) where
       → One (Says text (codes "physical_value")) word start tokens
       → physical text word.at tokens ≡ Some found → EntryRow text found.0 start found.1
   unfolding physical
-  physical_here text word start tokens found (front, is) e =
+  physical_here text word start tokens found (prefix, is) e =
       let low = opened _ _ tokens found e in
       let high = opened _ _ low.1 found low.3 in
       let scale = opened _ _ high.1 found high.3 in
@@ -294,7 +294,7 @@ module _ (pieces : Pieces) where
       let unit = opened _ _ offset.1 found offset.3 in
       ends (EntryRow text) start unit.1 (Physical word.at low.0 high.0 scale.0 offset.0 unit.0) found unit.3 (
         tokens,
-        (word, (front, (is, refl))),
+        (word, (prefix, (is, refl))),
         (
           low.1,
           next_number_here text tokens _ low.2,
@@ -313,33 +313,33 @@ module _ (pieces : Pieces) where
   plain_here : (text : List ℕ) (word : Token) (start tokens : List Token) (found : EncodingEntry × List Token) → start ≡ word ∷ tokens
       → Says text (codes "bcd_value") word ⊎ Says text (codes "ascii_value") word
       → plain_end text Plain tokens ≡ Some found → EntryRow text found.0 start found.1
-  plain_here text word start tokens found front is e =
+  plain_here text word start tokens found prefix is e =
       let end = plain_end_here text Plain tokens found e in
       let P : EncodingEntry → Type 0 = λ x. EntryRow text x start found.1 in
-      subst P (sym end.0) (tokens, (word, (front, is)), end.1)
+      subst P (sym end.0) (tokens, (word, (prefix, is)), end.1)
 
   -- which word it is decides the kind
   entry_by_here : (text : List ℕ) (word : Token) (start tokens : List Token) (found : EncodingEntry × List Token) → One IsWord word start tokens
       → entry_by text word.at (entry_kind (token_text text word)) tokens ≡ Some found → EntryRow text found.0 start found.1
-  entry_by_here text word start tokens found (front, is) e =
+  entry_by_here text word start tokens found (prefix, is) e =
       let name = token_text text word in
       let by : Option EntryKind → Option (EncodingEntry × List Token) = λ k. entry_by text word.at k tokens in
       elim (equal_or_not name (codes "logical_value")) [
         | inl same ↦
             let kind : entry_kind name ≡ Some kinds.Logical = rw same.1 refl in
-            logical_here text start tokens found (word, (front, (is, same.0))) (sym (ap by kind) ∙ e)
+            logical_here text start tokens found (word, (prefix, (is, same.0))) (sym (ap by kind) ∙ e)
         | inr no_logical ↦ elim (equal_or_not name (codes "physical_value")) [
           | inl same ↦
               let kind : entry_kind name ≡ Some kinds.Physical = rw (no_logical.1, same.1) refl in
-              physical_here text word start tokens found (front, (is, same.0)) (sym (ap by kind) ∙ e)
+              physical_here text word start tokens found (prefix, (is, same.0)) (sym (ap by kind) ∙ e)
           | inr no_physical ↦ elim (equal_or_not name (codes "bcd_value")) [
             | inl same ↦
                 let kind : entry_kind name ≡ Some kinds.Plain = rw (no_logical.1, no_physical.1, same.1) refl in
-                plain_here text word start tokens found front (inl (is, same.0)) (sym (ap by kind) ∙ e)
+                plain_here text word start tokens found prefix (inl (is, same.0)) (sym (ap by kind) ∙ e)
             | inr no_bcd ↦ elim (equal_or_not name (codes "ascii_value")) [
               | inl same ↦
                   let kind : entry_kind name ≡ Some kinds.Plain = rw (no_logical.1, no_physical.1, no_bcd.1, same.1) refl in
-                  plain_here text word start tokens found front (inr (is, same.0)) (sym (ap by kind) ∙ e)
+                  plain_here text word start tokens found prefix (inr (is, same.0)) (sym (ap by kind) ∙ e)
               | inr no_ascii ↦
                   let kind : entry_kind name ≡ None = rw (no_logical.1, no_physical.1, no_bcd.1, no_ascii.1) refl in
                   absurd (no_some (by (entry_kind name)) found (ap by kind) e)

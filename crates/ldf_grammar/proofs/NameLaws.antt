@@ -5,7 +5,7 @@ use Rattle.std.specs.List.{flat_map}
 use Rattle.std.proofs.lemmas.List.Elements.{All-append, All-nil, All-cons}
 use Rattle.sig_text.specs.declared.token.Token.{Token}
 use Rattle.sig_text.specs.declared.token.TokenKind.{TokenKind}
-use Rattle.sig_text.specs.Spelling.{IsWord, IsSpelling}
+use Rattle.sig_text.specs.Lexemes.{IsWord, IsLexeme}
 use Rattle.sig_text.specs.Tokens.{AreTokens}
 use Rattle.token_forms.specs.Pieces.{token_text, literal_at}
 use Rattle.token_forms.specs.Runs.{AreRun}
@@ -27,8 +27,8 @@ use Rattle.ldf_grammar.specs.declared.statement.FrameSignal.{FrameSignal}
 use Rattle.ldf_grammar.specs.declared.statement.Frame.{Frame}
 use Rattle.ldf_grammar.specs.declared.statement.Statement.{Statement}
 use Rattle.ldf_grammar.specs.declared.statement.Statement.TheVariants.{Signals, Frames, Encodings, Representations, PassedOver}
-use Rattle.ldf_grammar.proofs.WordLaws.{AreOfText, LeavesOf, literal_leaves, passed_told, IsTold, Tells, Any, IsWordToken, AllKeep, tells_followed, tells_say, tells_word, tells_expect, tells_either, tells_until}
-use Rattle.ldf_grammar.proofs.RowLaws.{Rows, standing_run}
+use Rattle.ldf_grammar.proofs.WordLaws.{AreOfText, LeavesOf, literal_leaves, passed_known, IsKnown, Tells, Any, IsWordToken, AllKeep, tells_followed, tells_say, tells_word, tells_expect, tells_either, tells_until}
+use Rattle.ldf_grammar.proofs.RowLaws.{Rows, parsed_run}
 use Rattle.ldf_grammar.proofs.LineWordLaws.{NamesSignal, NamesFrame, t_line, t_frame, t_encoding, t_representation}
 
 -- what is passed over leaves tokens of the text
@@ -58,11 +58,11 @@ after_section_leaves text (token ∷ rest) of depth =
 
 t_header : (text : List ℕ) → Tells text Any (header_line text)
 unfolding header_line
-t_header text tokens of = passed_told text (after_line text tokens) (after_line_leaves text tokens of)
+t_header text tokens of = passed_known text (after_line text tokens) (after_line_leaves text tokens of)
 
 t_other : (text : List ℕ) → Tells text Any (other_section text)
 unfolding other_section
-t_other text tokens of = passed_told text (after_section text 0 tokens) (after_section_leaves text tokens of 0)
+t_other text tokens of = passed_known text (after_section text 0 tokens) (after_section_leaves text tokens of 0)
 
 -- the names in a statement's frames are words of the text
 abbrev NamesStatement : List ℕ → Statement → Type 0
@@ -100,22 +100,22 @@ t_statement : (text : List ℕ) → Tells text (NamesStatement text) (statement 
 unfolding statement
 t_statement text = tells_followed text (IsWordToken text) (NamesStatement text) _ _ (tells_word text) (λ a _. t_behind text a)
 
-taken_told : {A : Type 0} (text : List ℕ) (P : A → Type 0) (tokens : List Token) (o : Option (A × List Token)) → IsTold text P o → IsTold text P (taken tokens o)
-taken_told text P tokens None told = tt
-taken_told text P tokens (Some found) told =
-    elim (nat_lt (length found.1) (length tokens)) as (λ (b : Bool). IsTold text P (if b then Some found else None)) [ true ↦ told | false ↦ tt ]
+taken_known : {A : Type 0} (text : List ℕ) (P : A → Type 0) (tokens : List Token) (o : Option (A × List Token)) → IsKnown text P o → IsKnown text P (taken tokens o)
+taken_known text P tokens None known = tt
+taken_known text P tokens (Some found) known =
+    elim (nat_lt (length found.1) (length tokens)) as (λ (b : Bool). IsKnown text P (if b then Some found else None)) [ true ↦ known | false ↦ tt ]
 
 t_whole : (text : List ℕ) → Tells text (NamesStatement text) (whole_statement text)
 unfolding taking
-t_whole text tokens of = taken_told text (NamesStatement text) tokens (statement text tokens) (t_statement text tokens of)
+t_whole text tokens of = taken_known text (NamesStatement text) tokens (statement text tokens) (t_statement text tokens of)
 
 run_names : (text : List ℕ) (tokens : List Token) (statements : List Statement) (rest : List Token) → AreRun (whole_statement text) tokens statements rest → AreOfText text tokens
     → AllKeep (NamesStatement text) statements
 run_names text tokens [] rest run of = tt
 run_names text tokens (s ∷ ss) rest (middle, found, later) of =
-    let P : Option (Statement × List Token) → Type 0 = IsTold text (NamesStatement text) in
-    let told = subst P found (t_whole text tokens of) in
-    (told.0, run_names text middle ss rest later told.1)
+    let P : Option (Statement × List Token) → Type 0 = IsKnown text (NamesStatement text) in
+    let known = subst P found (t_whole text tokens of) in
+    (known.0, run_names text middle ss rest later known.1)
 
 -- the tokens of a text, and those behind the first statement
 of_text : (text : List ℕ) (comments : Bool) (from : ℕ) (tokens : List Token) (to : ℕ) → AreTokens text comments from tokens to → AreOfText text tokens
@@ -132,17 +132,17 @@ first_leaves text tokens of = behind_leaves text (literal_at text (codes "LIN_de
 
 statement_names : (rows : Rows) (text : List ℕ) (statements : List Statement) → HasStatements text statements → AllKeep (NamesStatement text) statements
 statement_names rows text statements has =
-    let rest = has.stand.0 in
-    let opened = (rows.first text has.tokens rest).1 has.stand.1 in
+    let rest = has.parse.0 in
+    let opened = (rows.first text has.tokens rest).1 has.parse.1 in
     let P : Option (List Token) → Type 0 = LeavesOf text in
-    run_names text rest statements [] (standing_run rows text rest statements [] has.stand.2).run
+    run_names text rest statements [] (parsed_run rows text rest statements [] has.parse.2).run
     (subst P opened (first_leaves text has.tokens (of_text text true 0 has.tokens (length text) has.lexed)))
 
 -- and so are those of the messages
-word_spelled : (text : List ℕ) (token : Token) → IsWordToken text token → IsWord (token_text text token)
-word_spelled text token w =
-    let P : TokenKind → Type 0 = λ kind. IsSpelling kind (token_text text token) in
-    subst P w.kind w.there.spelled
+word_lexeme : (text : List ℕ) (token : Token) → IsWordToken text token → IsWord (token_text text token)
+word_lexeme text token w =
+    let P : TokenKind → Type 0 = λ kind. IsLexeme kind (token_text text token) in
+    subst P w.kind w.there.lexeme
 
 record HasWords (m : Message) : Type 0 where
   message : IsWord m.name
@@ -153,7 +153,7 @@ WordSignal s = IsWord s.name
 
 signal_words : (text : List ℕ) (d : Definitions) (signal : FrameSignal) (o : Option SignalLine) → NamesSignal text signal → All WordSignal (signal_by text d signal o)
 signal_words text d signal None h = All-nil WordSignal
-signal_words text d signal (Some line) h = All-cons WordSignal _ [] (word_spelled text signal.name h) (All-nil WordSignal)
+signal_words text d signal (Some line) h = All-cons WordSignal _ [] (word_lexeme text signal.name h) (All-nil WordSignal)
 
 signals_words : (text : List ℕ) (d : Definitions) (signals : List FrameSignal) → AllKeep (NamesSignal text) signals → All WordSignal (flat_map (signal_in text d) signals)
 signals_words text d [] h = All-nil WordSignal
@@ -163,7 +163,7 @@ signals_words text d (s ∷ ss) h =
 frames_words : (text : List ℕ) (d : Definitions) (frames : List Frame) → AllKeep (NamesFrame text) frames → All HasWords (map (message_of text d) frames)
 frames_words text d [] h = All-nil HasWords
 frames_words text d (f ∷ fs) h =
-    All-cons HasWords (message_of text d f) (map (message_of text d) fs) (record { message = word_spelled text f.name h.0.0; signals = signals_words text d f.signals h.0.1 }) (frames_words text d fs h.1)
+    All-cons HasWords (message_of text d f) (map (message_of text d) fs) (record { message = word_lexeme text f.name h.0.0; signals = signals_words text d f.signals h.0.1 }) (frames_words text d fs h.1)
 
 statement_words : (text : List ℕ) (d : Definitions) (s : Statement) → NamesStatement text s → All HasWords (messages_in text d s)
 statement_words text d (Signals lines) h = All-nil HasWords

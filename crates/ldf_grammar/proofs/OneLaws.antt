@@ -29,7 +29,7 @@ use Rattle.ldf_grammar.specs.declared.statement.Encoding.{Encoding}
 use Rattle.ldf_grammar.specs.declared.statement.Statement.{Statement}
 use Rattle.ldf_grammar.specs.declared.fault.LdfFault.TheVariants as faults
 use Rattle.ldf_grammar.proofs.PartLaws.{first_same}
-use Rattle.ldf_grammar.proofs.RowLaws.{Rows, standing_run}
+use Rattle.ldf_grammar.proofs.RowLaws.{Rows, parsed_run}
 
 -- what the crates below say: tokens, longest runs, scales and verdicts are one
 pub record Below : Type 0 where
@@ -53,12 +53,12 @@ one_end : (below : Below) (text : List ℕ) (tokens : List Token) (xs ys : List 
 one_end below text tokens xs ys m n (a, first, run) (b, again, other) =
     let same = some_same (after_first text tokens) a b ((below.rows.first text tokens a).1 first) ((below.rows.first text tokens b).1 again) in
     let P : List Token → Type 0 = λ ts. LongestRun text xs ts m in
-    below.run (whole_statement text) b xs ys m n (standing_run below.rows text b xs m (subst P same run)) (standing_run below.rows text b ys n other)
+    below.run (whole_statement text) b xs ys m n (parsed_run below.rows text b xs m (subst P same run)) (parsed_run below.rows text b ys n other)
 
 pub same_statements : (below : Below) (text : List ℕ) (s t : List Statement) → HasStatements text s → HasStatements text t → s ≡ t
 same_statements below text s t p q =
     let P : List Token → Type 0 = λ ts. AllRows text s ts [] in
-    (one_end below text q.tokens s t [] [] (subst P (below.tokens text true p.tokens q.tokens p.lexed q.lexed) p.stand) q.stand).0
+    (one_end below text q.tokens s t [] [] (subst P (below.tokens text true p.tokens q.tokens p.lexed q.lexed) p.parse) q.parse).0
 
 -- statements that are whole do not break off
 whole_or_broken : (below : Below) (text : List ℕ) (tokens : List Token) (s : List Statement) (at : ℕ) → AllRows text s tokens [] → ¬ BreaksOff text tokens at
@@ -70,7 +70,7 @@ whole_or_broken below text tokens s at there (cut_short rest first breaks) =
 pub not_broken : (below : Below) (text : List ℕ) (s : List Statement) (at : ℕ) → HasStatements text s → ¬ IsStatementFault text at
 not_broken below text s at p q =
     let P : List Token → Type 0 = λ ts. AllRows text s ts [] in
-    whole_or_broken below text q.tokens s at (subst P (below.tokens text true p.tokens q.tokens p.lexed q.lexed) p.stand) q.broken
+    whole_or_broken below text q.tokens s at (subst P (below.tokens text true p.tokens q.tokens p.lexed q.lexed) p.parse) q.broken
 
 same_break : (below : Below) (text : List ℕ) (tokens : List Token) (a b : ℕ) → BreaksOff text tokens a → BreaksOff text tokens b → a ≡ b
 same_break below text tokens a b (unnamed lacks is) (unnamed lacks_too are) = is ∙ sym are

@@ -1,4 +1,4 @@
--- Forms one behind another, a choice and parts up to a sign find what stands there, where their pieces do.
+-- Forms one behind another, a choice and parts up to a sign find what is there, where their pieces do.
 use Rattle.std.proofs.Common.{◌≡◌, ◌∙◌, sym, ap, refl, subst, arith, ℕ, zero, suc, ◌<◌, ◌⊎◌, inl, inr, Bool, true, false, List, [], ◌∷◌, length}
 use Rattle.std.specs.Prelude.{◌↔◌, Option, Some, None, nat_lt, if◌then◌else◌}
 use Rattle.std.specs.Str.{bytes_eq}
@@ -10,11 +10,11 @@ use Rattle.token_forms.specs.Pieces.{literal_at, word_at, string_at}
 use Rattle.token_forms.specs.Numbers.{number_up_to_at, signed_at}
 use Rattle.token_forms.specs.Runs.{Form}
 use Rattle.ldf_grammar.specs.Forms.{go_on, followed_by, say, demand, expect, passed, either, chosen, put_before, until_part, until_by, until_within, until}
-use Rattle.token_forms.specs.Stands.{◌▸◌, Any, Lacks, One, Quoted, IsWord, IsString, NumberUpTo, OptionalSign, Signed}
+use Rattle.token_forms.specs.Grammar.{◌▸◌, Any, Lacks, One, Quoted, IsWord, IsString, NumberUpTo, OptionalSign, Signed}
 use Rattle.ldf_grammar.specs.Statements.{Part, UpTo}
 use Rattle.ldf_grammar.proofs.UntilLaws.{until_closed, until_goes_on}
 
--- what the crate below says of its pieces: they find exactly what stands there
+-- what the crate below says of its pieces: they find exactly what is there
 pub record Pieces : Type 0 where
   pub quoted : (text literal : List ℕ) (tokens rest : List Token) → (literal_at text literal tokens ≡ Some rest) ↔ Quoted text literal tokens rest
   pub word : (tokens : List Token) (word : Token) (rest : List Token) → (word_at tokens ≡ Some (word, rest)) ↔ One IsWord word tokens rest
@@ -24,7 +24,7 @@ pub record Pieces : Type 0 where
   pub signed : (text : List ℕ) (tokens : List Token) (n : SignedNumber) (rest : List Token)
       → (signed_at text tokens ≡ Some (n, rest)) ↔ Signed text n tokens rest
 
--- what a form finds stands there, and what stands there it finds
+-- what a form finds is there, and what is there it finds
 abbrev pub IsSound : {A : Type 0} → (A → Part) → Form A → Type 0
 IsSound {A} Row form = (tokens : List Token) (found : A × List Token) → form tokens ≡ Some found → Row found.0 tokens found.1
 
@@ -124,20 +124,20 @@ pub any_takes : {A : Type 0} (Row : A → Part) → ((x : A) → Takes (Row x)) 
 any_takes Row each tokens rest (x, there) = each x tokens rest there
 
 pub one_takes : (Sort : Token → Type 0) (token : Token) → Takes (One Sort token)
-one_takes Sort token tokens rest (front, is) = fewer token tokens rest front
+one_takes Sort token tokens rest (prefix, is) = fewer token tokens rest prefix
 
 pub quoted_takes : (text literal : List ℕ) → Takes (Quoted text literal)
-quoted_takes text literal tokens rest (token, (front, is)) = fewer token tokens rest front
+quoted_takes text literal tokens rest (token, (prefix, is)) = fewer token tokens rest prefix
 
 pub number_takes : (text : List ℕ) (limit n : ℕ) → Takes (NumberUpTo text limit n)
-number_takes text limit n tokens rest (token, (front, is)) = fewer token tokens rest front
+number_takes text limit n tokens rest (token, (prefix, is)) = fewer token tokens rest prefix
 
 sign_leaves : (text : List ℕ) (sign : Option Token) (tokens rest left : List Token) → OptionalSign text sign tokens rest → length left < length rest → length left < length tokens
 sign_leaves text None tokens rest left (same, none) h = rw same h
-sign_leaves text (Some sign) tokens rest left (front, is) h = rw front (omega (arith, h))
+sign_leaves text (Some sign) tokens rest left (prefix, is) h = rw prefix (omega (arith, h))
 
 pub signed_takes : (text : List ℕ) (n : SignedNumber) → Takes (Signed text n)
-signed_takes text n tokens rest (middle, sign, (front, is)) = sign_leaves text n.sign tokens middle rest sign (fewer n.number middle rest front)
+signed_takes text n tokens rest (middle, sign, (prefix, is)) = sign_leaves text n.sign tokens middle rest sign (fewer n.number middle rest prefix)
 
 pub up_to_takes : {A : Type 0} (text close : List ℕ) (Row : A → Part) → ((x : A) → Takes (Row x)) → (xs : List A) → Takes (UpTo text close Row xs)
 up_to_takes text close Row takes [] tokens rest q = quoted_takes text close tokens rest q

@@ -37,7 +37,7 @@ makes text tokens statements database lexed are gathers = record {
   statements = statements;
   coded = gathers.coded;
   read = record {
-    whole = record { tokens = tokens; lexed = lexed; stand = are };
+    whole = record { tokens = tokens; lexed = lexed; parse = are };
     encodings = gathers.encodings;
   };
   known = gathers.known;
@@ -67,13 +67,13 @@ gather_fault : (text : List ℕ) (tokens : List Token) (statements : List Statem
     → FailsToGather text statements e → IsAnswered text e
 gather_fault text tokens statements (faults.Scale at) lexed are h = inr (record {
   statements = statements;
-  whole = record { tokens = tokens; lexed = lexed; stand = are };
+  whole = record { tokens = tokens; lexed = lexed; parse = are };
   first = h;
 })
 gather_fault text tokens statements (faults.UnknownName at) lexed are h = inr (record {
   statements = statements;
   coded = h.coded;
-  read = record { whole = record { tokens = tokens; lexed = lexed; stand = are }; encodings = h.encodings };
+  read = record { whole = record { tokens = tokens; lexed = lexed; parse = are }; encodings = h.encodings };
   first = h.first;
 })
 gather_fault text tokens statements (faults.Lex f) lexed are h = absurd h

@@ -70,7 +70,7 @@ flat_more R f g ss i now later x each h is (added, e, more) =
     let both = each_append R (flat_map g (take i ss)) (map f now) (g x) (map f added) each more in
     rw (flat_step g ss i x h is, e, map-append f now added) both
 
-each_split : {A B : Type 0} (R : A → B → Type 0) (xs more : List A) (ys : List B) → AllZip R (xs ++ more) ys → (front : List B) × (back : List B) × AllZip R xs front × AllZip R more back
+each_split : {A B : Type 0} (R : A → B → Type 0) (xs more : List A) (ys : List B) → AllZip R (xs ++ more) ys → (prefix : List B) × (back : List B) × AllZip R xs prefix × AllZip R more back
 each_split R [] more ys each = ([], ys, tt, each)
 each_split R (x ∷ xs) more [] each = absurd each
 each_split R (x ∷ xs) more (y ∷ ys) each =

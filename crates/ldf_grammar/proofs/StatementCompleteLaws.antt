@@ -1,4 +1,4 @@
--- What stands at the front of tokens the form of a statement finds, a lemma a form.
+-- What is at the front of tokens the form of a statement finds, a lemma a form.
 use Rattle.std.proofs.Common.{◌≡◌, ◌∙◌, sym, ap, refl, ℕ, ◌⊎◌, inl, inr, Bool, true, false, List, length, length-append, ◌<◌, ◌≤◌, arith}
 use Rattle.std.specs.Prelude.{Option, Some, None, All, codes}
 use Rattle.std.specs.Str.{bytes_eq}
@@ -17,11 +17,11 @@ use Rattle.ldf_grammar.specs.LineForms.{encoding, representation}
 use Rattle.ldf_grammar.specs.StatementForms.{header_line, other_section, signal_section, frame_section}
 use Rattle.ldf_grammar.specs.StatementForms.{encoding_section, representation_section, passed_section, passed_line, section_by_kind, opened_section, statement_behind}
 use Rattle.ldf_grammar.specs.StatementForms.{statement, whole_statement}
-use Rattle.token_forms.specs.Stands.{◌▸◌, Any, Lacks, One, Quoted, IsWord, IsString, NumberUpTo, Signed}
+use Rattle.token_forms.specs.Grammar.{◌▸◌, Any, Lacks, One, Quoted, IsWord, IsString, NumberUpTo, Signed}
 use Rattle.ldf_grammar.specs.Statements.{Part, UpTo, Tokens, Says, Keyword, NextWord, NextNumber, NextSigned, Init, SignalRow, FrameSignalRow, FrameRow, LastString}
 use Rattle.ldf_grammar.specs.Statements.{EntryRow, EncodingRow, RepresentationRow, IsOpening, IsClosing, InPairs, StaysInLine, HasOtherName, HeaderRow, OtherRow}
 use Rattle.ldf_grammar.specs.Statements as rows
-use Rattle.ldf_grammar.specs.Statements.{FirstRow, Stands}
+use Rattle.ldf_grammar.specs.Statements.{FirstRow, Parses}
 use Rattle.ldf_grammar.specs.StatementForms.{behind_name, after_first}
 use Rattle.ldf_grammar.specs.declared.statement.SignalLine.{SignalLine}
 use Rattle.ldf_grammar.specs.declared.statement.FrameSignal.{FrameSignal}
@@ -117,7 +117,7 @@ representation_row_takes text line =
 
 -- tokens of any kind leave no more than there were
 tokens_leave : (Are : List Token → Type 0) (tokens rest : List Token) → Tokens Are tokens rest → length rest ≤ length tokens
-tokens_leave Are tokens rest (front, is, are) = let added = length-append front rest in rw is (omega (arith, added))
+tokens_leave Are tokens rest (prefix, is, are) = let added = length-append prefix rest in rw is (omega (arith, added))
 
 passed_takes : (Are : List Token → Type 0) (First Sign End : Part) → Takes First → Takes Sign → Takes End → Takes (First ▸ Sign ▸ Tokens Are ▸ End)
 passed_takes Are First Sign End first sign end tokens rest (b, is, (c, signed, (d, there, ended))) =
@@ -132,7 +132,7 @@ section_takes text name Row takes xs =
     then_takes _ _ (any_takes (One (Says text name)) (one_takes (Says text name)))
     (then_takes _ _ (quoted_takes text (codes "{")) (up_to_takes text (codes "}") Row takes xs))
 
-statement_shorter : (text : List ℕ) (tokens : List Token) (x : Statement) (rest : List Token) → Stands text tokens x rest → length rest < length tokens
+statement_shorter : (text : List ℕ) (tokens : List Token) (x : Statement) (rest : List Token) → Parses text tokens x rest → length rest < length tokens
 statement_shorter text tokens (Signals lines) rest there =
     section_takes text (codes "Signals") (SignalRow text) (signal_row_takes text) lines tokens rest there
 statement_shorter text tokens (Frames frames) rest there =
@@ -150,13 +150,13 @@ statement_shorter text tokens PassedOver rest (inr there) =
 
 -- a sign is not another one
 another : (text sign literal : List ℕ) (tokens rest : List Token) → bytes_eq sign literal ≡ false → Quoted text sign tokens rest → Lacks (Quoted text literal) tokens
-another text sign literal tokens rest differ (token, (front, is)) left (seen, (there, reads)) =
-    apart sign literal differ (sym is ∙ ap (token_text text) (first_same token seen rest left (sym front ∙ there)) ∙ reads)
+another text sign literal tokens rest differ (token, (prefix, is)) left (seen, (there, reads)) =
+    apart sign literal differ (sym is ∙ ap (token_text text) (first_same token seen rest left (sym prefix ∙ there)) ∙ reads)
 
 -- a number is no brace
 no_brace : (text : List ℕ) (limit n : ℕ) (tokens rest : List Token) → NumberUpTo text limit n tokens rest → Lacks (Quoted text (codes "{")) tokens
-no_brace text limit n tokens rest (token, (front, (is, has))) left (seen, (there, reads)) =
-    let says = ap (token_text text) (first_same token seen rest left (sym front ∙ there)) ∙ reads in
+no_brace text limit n tokens rest (token, (prefix, (is, has))) left (seen, (there, reads)) =
+    let says = ap (token_text text) (first_same token seen rest left (sym prefix ∙ there)) ∙ reads in
     elim has [
       | inl decimal ↦ not_digits (sym (ap (is_numeral Decimal) says) ∙ decimal.1.digits)
       | inr marked ↦ not_digits (sym (ap is_hexadecimal says) ∙ marked.0)
@@ -315,19 +315,19 @@ module _ (pieces : Pieces) where
 
   entry_there : (text : List ℕ) → IsComplete (EntryRow text) (entry text)
   unfolding entry
-  entry_there text (Logical raw words) tokens rest (b, (word, (front, (is, reads))), more) =
-      joined _ _ tokens b word (Some (Logical raw words, rest)) (word_there word tokens b (front, is))
+  entry_there text (Logical raw words) tokens rest (b, (word, (prefix, (is, reads))), more) =
+      joined _ _ tokens b word (Some (Logical raw words, rest)) (word_there word tokens b (prefix, is))
       (ap (λ (k : Option EntryKind). entry_by text word.at k b) (ap entry_kind reads) ∙ logical_there text raw words b rest more)
-  entry_there text (Physical at low high scale offset unit) tokens rest (b, (word, (front, ((is, reads), place))), more) =
-      joined _ _ tokens b word (Some (Physical at low high scale offset unit, rest)) (word_there word tokens b (front, is))
+  entry_there text (Physical at low high scale offset unit) tokens rest (b, (word, (prefix, ((is, reads), place))), more) =
+      joined _ _ tokens b word (Some (Physical at low high scale offset unit, rest)) (word_there word tokens b (prefix, is))
       (ap (λ (k : Option EntryKind). entry_by text word.at k b) (ap entry_kind reads)
       ∙ ap (λ (n : ℕ). physical text n b) place
       ∙ physical_there text at low high scale offset unit b rest more)
-  entry_there text Plain tokens rest (b, (word, (front, inl (is, reads))), end) =
-      joined _ _ tokens b word (Some (Plain, rest)) (word_there word tokens b (front, is))
+  entry_there text Plain tokens rest (b, (word, (prefix, inl (is, reads))), end) =
+      joined _ _ tokens b word (Some (Plain, rest)) (word_there word tokens b (prefix, is))
       (ap (λ (k : Option EntryKind). entry_by text word.at k b) (ap entry_kind reads) ∙ plain_end_there text Plain b rest end)
-  entry_there text Plain tokens rest (b, (word, (front, inr (is, reads))), end) =
-      joined _ _ tokens b word (Some (Plain, rest)) (word_there word tokens b (front, is))
+  entry_there text Plain tokens rest (b, (word, (prefix, inr (is, reads))), end) =
+      joined _ _ tokens b word (Some (Plain, rest)) (word_there word tokens b (prefix, is))
       (ap (λ (k : Option EntryKind). entry_by text word.at k b) (ap entry_kind reads) ∙ plain_end_there text Plain b rest end)
 
   word_before_there : (text literal : List ℕ) (word : Token) (tokens middle rest : List Token) → One IsWord word tokens middle → Quoted text literal middle rest
@@ -441,22 +441,22 @@ module _ (pieces : Pieces) where
       joined _ _ a b word (Some (PassedOver, rest)) (word_there word a b is)
       (either_behind pieces text (codes "=") (passed_line text) (opened_section text (section_of (token_text text word))) b c (Some (PassedOver, rest)) equals e)
 
-  statement_there : (text : List ℕ) (tokens : List Token) (x : Statement) (rest : List Token) → Stands text tokens x rest → statement text tokens ≡ Some (x, rest)
+  statement_there : (text : List ℕ) (tokens : List Token) (x : Statement) (rest : List Token) → Parses text tokens x rest → statement text tokens ≡ Some (x, rest)
   unfolding section_by_kind
-  statement_there text tokens (Signals lines) rest (b, (word, (front, (is, reads))), (c, opening, parts)) =
-      section_there_by text word kinds.Signals (Signals lines) tokens b c rest (front, is) (ap section_of reads) opening (signal_section_there text lines c rest parts)
-  statement_there text tokens (Frames frames) rest (b, (word, (front, (is, reads))), (c, opening, parts)) =
-      section_there_by text word kinds.Frames (Frames frames) tokens b c rest (front, is) (ap section_of reads) opening (frame_section_there text frames c rest parts)
-  statement_there text tokens (Encodings encodings) rest (b, (word, (front, (is, reads))), (c, opening, parts)) =
-      section_there_by text word kinds.Encodings (Encodings encodings) tokens b c rest (front, is) (ap section_of reads) opening (encoding_section_there text encodings c rest parts)
-  statement_there text tokens (Representations lines) rest (b, (word, (front, (is, reads))), (c, opening, parts)) =
-      section_there_by text word kinds.Representations (Representations lines) tokens b c rest (front, is) (ap section_of reads) opening (representation_section_there text lines c rest parts)
+  statement_there text tokens (Signals lines) rest (b, (word, (prefix, (is, reads))), (c, opening, parts)) =
+      section_there_by text word kinds.Signals (Signals lines) tokens b c rest (prefix, is) (ap section_of reads) opening (signal_section_there text lines c rest parts)
+  statement_there text tokens (Frames frames) rest (b, (word, (prefix, (is, reads))), (c, opening, parts)) =
+      section_there_by text word kinds.Frames (Frames frames) tokens b c rest (prefix, is) (ap section_of reads) opening (frame_section_there text frames c rest parts)
+  statement_there text tokens (Encodings encodings) rest (b, (word, (prefix, (is, reads))), (c, opening, parts)) =
+      section_there_by text word kinds.Encodings (Encodings encodings) tokens b c rest (prefix, is) (ap section_of reads) opening (encoding_section_there text encodings c rest parts)
+  statement_there text tokens (Representations lines) rest (b, (word, (prefix, (is, reads))), (c, opening, parts)) =
+      section_there_by text word kinds.Representations (Representations lines) tokens b c rest (prefix, is) (ap section_of reads) opening (representation_section_there text lines c rest parts)
   statement_there text tokens PassedOver rest (inl (b, (word, is), (c, equals, more))) =
       header_there text word tokens b c rest is equals (passed_line_there text c rest more)
-  statement_there text tokens PassedOver rest (inr (b, (word, (front, other)), (c, opening, more))) =
-      section_there_by text word kinds.Other PassedOver tokens b c rest (front, other.word_is) (other_kind text word other) opening (passed_section_there text c rest more)
+  statement_there text tokens PassedOver rest (inr (b, (word, (prefix, other)), (c, opening, more))) =
+      section_there_by text word kinds.Other PassedOver tokens b c rest (prefix, other.word_is) (other_kind text word other) opening (passed_section_there text c rest more)
 
-  pub whole_statement_there : (text : List ℕ) (tokens : List Token) (x : Statement) (rest : List Token) → Stands text tokens x rest
+  pub whole_statement_there : (text : List ℕ) (tokens : List Token) (x : Statement) (rest : List Token) → Parses text tokens x rest
       → whole_statement text tokens ≡ Some (x, rest)
   whole_statement_there text tokens x rest there =
       taking_some (statement text) tokens rest x (statement_there text tokens x rest there) (statement_shorter text tokens x rest there)

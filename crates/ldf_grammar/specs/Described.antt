@@ -14,7 +14,7 @@ use Rattle.ldf_grammar.specs.declared.statement.Statement.{Statement}
 use Rattle.ldf_grammar.specs.declared.fault.LdfFault.{LdfFault}
 use Rattle.ldf_grammar.specs.declared.fault.LdfFault.TheVariants as faults
 
--- an encoding whose first entry of a too wide scaling stands at this place
+-- an encoding whose first entry of a too wide scaling is at this place
 abbrev pub IsWideEncoding : List ℕ → Encoding → ℕ → Type 0
 IsWideEncoding text encoding at = FirstFailsFor (IsEntryOf text) (IsTooWide text) encoding.entries at
 

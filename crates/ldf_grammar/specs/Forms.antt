@@ -33,7 +33,7 @@ passed (Some rest) = Some (tt, rest)
 unfoldable pub expect : List ℕ → List ℕ → Form (Unit {0})
 expect text literal tokens = passed (literal_at text literal tokens)
 
--- the second form behind the quoted token where it stands there, else the third one
+-- the second form behind the quoted token where it is there, else the third one
 abbrev pub chosen : {A : Type 0} → Option (List Token) → Form A → Form A → Form A
 chosen None behind other tokens = other tokens
 chosen (Some rest) behind other tokens = behind rest
@@ -50,7 +50,7 @@ abbrev pub put_all_before : {A : Type 0} → List A → Option (List A × List T
 put_all_before xs None = None
 put_all_before xs (Some found) = Some (xs ++ found.0, found.1)
 
--- a part where the closing sign does not stand, and the later ones behind it; a part takes a token at least
+-- a part where the closing sign is not, and the later ones behind it; a part takes a token at least
 abbrev pub until_part : {A : Type 0} → Form (List A) → List Token → Option (A × List Token) → Option (List A × List Token)
 until_part later tokens None = None
 until_part later tokens (Some found) =

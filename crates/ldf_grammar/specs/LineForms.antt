@@ -32,7 +32,7 @@ next_signed text = do
   _ ← expect text (codes ",")
   signed_at text
 
--- the initial value of a signal; whether it stands in braces
+-- the initial value of a signal; whether it is in braces
 unfoldable pub array_value : List ℕ → Form Bool
 array_value text = do
   _ ← number_up_to_at text greatest_number

@@ -3,13 +3,13 @@
 use Rattle.std.specs.Prelude.{◌≡◌, ℕ, true, List, [], ◌∷◌, length}
 use Rattle.sig_text.specs.declared.token.Token.{Token}
 use Rattle.sig_text.specs.Tokens.{IsTokens}
-use Rattle.token_forms.specs.Stands.{◌▸◌, Lacks, Each, BreaksAt}
-use Rattle.ldf_grammar.specs.Statements.{Part, FirstRow, Stands}
+use Rattle.token_forms.specs.Grammar.{◌▸◌, Lacks, Each, BreaksAt}
+use Rattle.ldf_grammar.specs.Statements.{Part, FirstRow, Parses}
 use Rattle.ldf_grammar.specs.declared.statement.Statement.{Statement}
 
--- a statement, and as many as there are one behind another: none stands behind the last one
+-- a statement, and as many as there are one behind another: none is behind the last one
 abbrev pub Row : List ℕ → Statement → Part
-Row text statement tokens rest = Stands text tokens statement rest
+Row text statement tokens rest = Parses text tokens statement rest
 
 abbrev pub LongestRun : List ℕ → List Statement → Part
 LongestRun text = Each (Row text)
@@ -22,7 +22,7 @@ AllRows text statements = FirstRow text ▸ LongestRun text statements
 pub record HasStatements (text : List ℕ) (statements : List Statement) : Type 0 where
   pub tokens : List Token
   pub lexed : IsTokens text true tokens
-  pub stand : AllRows text statements tokens []
+  pub parse : AllRows text statements tokens []
 
 -- the place of the first token, or the text's end where there is none
 abbrev pub place_of : List ℕ → List Token → ℕ

@@ -25,7 +25,7 @@ mark_of word =
     else if bytes_eq word (codes ";") then End
     else Neither
 
--- the tokens after the first semicolon, where no brace stands before it
+-- the tokens after the first semicolon, where no brace is before it
 abbrev pub line_by : Mark → List Token → Option (List Token) → Option (List Token)
 line_by Opening rest later = None
 line_by Closing rest later = None
@@ -109,7 +109,7 @@ statement text = do
   word ← word_at
   statement_behind text word
 
--- the same, as one of several that stand one after another
+-- the same, as one of several that are one after another
 abbrev pub whole_statement : List ℕ → Form Statement
 whole_statement text = taking (statement text)
 

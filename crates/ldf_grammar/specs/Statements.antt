@@ -7,7 +7,7 @@ use Rattle.sig_text.specs.declared.token.Token.{Token}
 use Rattle.token_forms.specs.declared.numbers.SignedNumber.{SignedNumber}
 use Rattle.token_forms.specs.Pieces.{token_text}
 use Rattle.ldf_grammar.specs.Sizes.{greatest_number, most_bits, last_identifier, most_bytes, last_offset, is_size}
-use Rattle.token_forms.specs.Stands.{◌▸◌, Any, Lacks, One, Quoted, IsWord, IsString, NumberUpTo, Signed}
+use Rattle.token_forms.specs.Grammar.{◌▸◌, Any, Lacks, One, Quoted, IsWord, IsString, NumberUpTo, Signed}
 use Rattle.ldf_grammar.specs.declared.statement.SignalLine.{SignalLine}
 use Rattle.ldf_grammar.specs.declared.statement.FrameSignal.{FrameSignal}
 use Rattle.ldf_grammar.specs.declared.statement.Frame.{Frame}
@@ -20,18 +20,18 @@ use Rattle.ldf_grammar.specs.declared.statement.Statement.TheVariants.{Signals, 
 
 -- ---- what rows have in common
 
--- what stands between the tokens before it and those behind it
+-- what is between the tokens before it and those behind it
 abbrev pub Part : Type 1
 Part = List Token → List Token → Type 0
 
--- parts up to a closing sign, which stands behind the last of them and where none of them begins
+-- parts up to a closing sign, which is behind the last of them and where none of them begins
 abbrev pub UpTo : {A : Type 0} → List ℕ → List ℕ → (A → Part) → List A → Part
 UpTo text close Each [] tokens rest = Quoted text close tokens rest
 UpTo text close Each (x ∷ xs) tokens rest = Lacks (Quoted text close) tokens × (Each x ▸ UpTo text close Each xs) tokens rest
 
 -- tokens of any kind of which all together this is true
 abbrev pub Tokens : (List Token → Type 0) → Part
-Tokens Are tokens rest = (front : List Token) × (tokens ≡ front ++ rest) × Are front
+Tokens Are tokens rest = (prefix : List Token) × (tokens ≡ prefix ++ rest) × Are prefix
 
 -- the word with these bytes
 abbrev pub Says : List ℕ → List ℕ → Token → Type 0
@@ -153,11 +153,11 @@ FirstRow text = Quoted text (codes "LIN_description_file") ▸ Quoted text (code
 abbrev pub Section : {A : Type 0} → List ℕ → List ℕ → (A → Part) → List A → Part
 Section text name Row rows = Keyword text name ▸ Quoted text (codes "{") ▸ UpTo text (codes "}") Row rows
 
--- the statement stands at the front of the tokens, and the rest behind it
-abbrev pub Stands : List ℕ → List Token → Statement → List Token → Type 0
-Stands text tokens (Signals lines) rest = Section text (codes "Signals") (SignalRow text) lines tokens rest
-Stands text tokens (Frames frames) rest = Section text (codes "Frames") (FrameRow text) frames tokens rest
-Stands text tokens (Encodings encodings) rest = Section text (codes "Signal_encoding_types") (EncodingRow text) encodings tokens rest
-Stands text tokens (Representations lines) rest =
+-- the statement is at the front of the tokens, and the rest behind it
+abbrev pub Parses : List ℕ → List Token → Statement → List Token → Type 0
+Parses text tokens (Signals lines) rest = Section text (codes "Signals") (SignalRow text) lines tokens rest
+Parses text tokens (Frames frames) rest = Section text (codes "Frames") (FrameRow text) frames tokens rest
+Parses text tokens (Encodings encodings) rest = Section text (codes "Signal_encoding_types") (EncodingRow text) encodings tokens rest
+Parses text tokens (Representations lines) rest =
     Section text (codes "Signal_representation") (RepresentationRow text) lines tokens rest
-Stands text tokens PassedOver rest = HeaderRow text tokens rest ⊎ OtherRow text tokens rest
+Parses text tokens PassedOver rest = HeaderRow text tokens rest ⊎ OtherRow text tokens rest

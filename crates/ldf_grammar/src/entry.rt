@@ -71,7 +71,7 @@ fn logical<'a>(bytes: &[u8], tokens: &'a [Token]) -> Option<(EncodingEntry, &'a 
     Some((EncodingEntry::Logical { raw, text }, rest))
 }
 
-/// An entry for a range of raw values, behind its word, which stands at this place.
+/// An entry for a range of raw values, behind its word, which is at this place.
 #[tactic(auto, unfolding(crate::specs::LineForms::physical, crate::specs::Forms::followed_by, crate::specs::Forms::expect, crate::specs::Forms::say))]
 fn physical<'a>(
     bytes: &[u8],

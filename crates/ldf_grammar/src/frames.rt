@@ -68,7 +68,7 @@ pub(crate) fn next_number<'a>(bytes: &[u8], tokens: &'a [Token]) -> Option<(u64,
     number_up_to_at(bytes, MOST, rest)
 }
 
-/// The initial value of a signal. Whether it stands in braces, as that of a byte array.
+/// The initial value of a signal. Whether it is in braces, as that of a byte array.
 #[tactic(auto, unfolding(crate::specs::LineForms::initial_value, crate::specs::LineForms::array_value, crate::specs::LineForms::number_value, crate::specs::Forms::either, crate::specs::Forms::followed_by, crate::specs::Forms::expect, crate::specs::Forms::say))]
 fn initial_value<'a>(
     alloc: Global,

@@ -6,7 +6,7 @@ ghost use Rattle.bench_model.specs.declared.database.Database.{Database};
 ghost use Rattle.sig_text.specs.declared.token.Token.{Token};
 ghost use Rattle.token_forms.specs.Names.{HasNames};
 ghost use Rattle.token_forms.specs.Runs.{IsLongestRun, run_of};
-ghost use Rattle.ldf_grammar.specs.Statements.{FirstRow, Stands};
+ghost use Rattle.ldf_grammar.specs.Statements.{FirstRow, Parses};
 ghost use Rattle.ldf_grammar.specs.StatementForms.{after_first, whole_statement};
 ghost use Rattle.ldf_grammar.specs.Described.{IsDatabaseOf, HasFault};
 ghost use Rattle.ldf_grammar.specs.declared.statement.Statement.{Statement as AnyStatement};
@@ -16,7 +16,7 @@ use crate::statement::Statement;
 use bench_model::{valid_keeps_rules, verdict_is_unique};
 use multiplex_tree::signals_without_parents;
 use sig_text::reading_is_unique;
-use token_forms::{forms_find_what_stands, one_longest_run, one_scale_or_none};
+use token_forms::{forms_find_what_parses, one_longest_run, one_scale_or_none};
 
 /// A text describes one database at most or has one fault at most, and never both.
 pub fn description_is_unique()
@@ -64,14 +64,14 @@ pub fn statements_are_the_longest_run()
     one_longest_run::<Statement>();
 }
 
-/// A statement is found at the front of tokens exactly where it stands there, and so is the first one.
+/// A statement is found at the front of tokens exactly where it is there, and so is the first one.
 pub fn forms_are_statements()
     ensures statement { (text : List ℕ) (tokens : List Token) (statement : AnyStatement) (rest : List Token) →
-        (whole_statement text tokens ≡ Some (statement, rest)) ↔ Stands text tokens statement rest }
+        (whole_statement text tokens ≡ Some (statement, rest)) ↔ Parses text tokens statement rest }
     ensures first { (text : List ℕ) (tokens rest : List Token) →
         (after_first text tokens ≡ Some rest) ↔ FirstRow text tokens rest }
 {
-    forms_find_what_stands();
+    forms_find_what_parses();
 }
 
 /// The names of a described database's messages and signals are words of 1 to 128 bytes.

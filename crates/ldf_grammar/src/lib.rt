@@ -1,6 +1,6 @@
 //! The reader of LIN description files (LDF), the databases of LIN buses.
 //!
-//! It stands on `sig_text` (tokens), `token_forms` (what readers of statements share), `bench_model` (the database and
+//! It builds on `sig_text` (tokens), `token_forms` (what readers of statements share), `bench_model` (the database and
 //! its rules) and the lists and trees of `multiplex_tree`; the loader and the top calls call `read_ldf`. What a frame
 //! means under the database is `bench_model`'s.
 //!

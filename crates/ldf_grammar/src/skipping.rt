@@ -31,7 +31,7 @@ fn mark_of(text: &[u8]) -> Mark
     }
 }
 
-/// The tokens after the first semicolon, where no brace stands before it.
+/// The tokens after the first semicolon, where no brace is before it.
 #[tactic(auto, unfolding(crate::specs::StatementForms::after_line))]
 pub(crate) fn after_line<'a>(bytes: &[u8], tokens: &'a [Token]) -> Option<&'a [Token]>
     ensures { rest_view result ≡ after_line bytes.now tokens.now }

@@ -10,7 +10,7 @@ pub struct SignalLine {
     pub name: Token,
     /// How many bits it has.
     pub size: u32,
-    /// Whether it is a byte array: its initial value stands in braces.
+    /// Whether it is a byte array: its initial value is in braces.
     pub is_array: bool,
 }
 

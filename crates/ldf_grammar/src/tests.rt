@@ -445,7 +445,7 @@ fn statements_break_off_at_their_first_word(rt: HostRuntime) -> Result<(), Fail>
 }
 
 #[test]
-fn other_faults_stand_at_their_places(rt: HostRuntime) -> Result<(), Fail> {
+fn other_faults_have_their_places(rt: HostRuntime) -> Result<(), Fail> {
     are_shown(&rt, rt.alloc(), &OTHER_FAULTS)
 }
 
@@ -468,7 +468,7 @@ fn with_comments(alloc: Global, text: &[u8]) -> Result<Vec<u8>, AllocError> {
 }
 
 #[test]
-fn comments_stand_between_any_two_tokens(rt: HostRuntime) -> Result<(), Fail> {
+fn comments_may_come_between_any_two_tokens(rt: HostRuntime) -> Result<(), Fail> {
     for row in &DATABASES {
         let text = with_comments(rt.alloc(), row.0)?;
         let words = shown(rt.alloc(), &text)?;

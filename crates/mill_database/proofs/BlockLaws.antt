@@ -15,7 +15,7 @@ use Rattle.sig_text.specs.Tokens.{IsTokens}
 use Rattle.sig_text.specs.declared.token.TokenKind.TheVariants.{Word, Number, Str, Sign}
 use Rattle.mill_database.specs.GeneratedText.{message_count, id_of, message_name, message_line, signal_lines, message_text, generated_text}
 use Rattle.mill_database.proofs.PieceLaws.{Piece, piece_text, render, tokens_of, AreSpaces, IsPiece, ArePieces, HasTexts, tokens_are, texts_are, pieces_append, render_append}
-use Rattle.mill_database.proofs.SpellingLaws.{goes_on, is_plain, test_pieces, piece_passes, pieces_pass, number_piece, name_piece}
+use Rattle.mill_database.proofs.LexemeLaws.{goes_on, is_plain, test_pieces, piece_passes, pieces_pass, number_piece, name_piece}
 
 -- ---- pieces
 

@@ -18,7 +18,7 @@ use Rattle.bench_model.specs.declared.database.Message.{Message}
 use Rattle.bench_model.specs.declared.database.Coding.TheVariants.{Scaled}
 use Rattle.sig_text.specs.Content.{content_of, encoded, unescaped}
 use Rattle.token_forms.specs.Pieces.{token_text}
-use Rattle.token_forms.specs.Stands.{Any, Lacks, Each}
+use Rattle.token_forms.specs.Grammar.{Any, Lacks, Each}
 use Rattle.token_forms.specs.Scaling.{IsScaling}
 use Rattle.dbc_grammar.specs.declared.statement.Statement.{Statement}
 use Rattle.dbc_grammar.specs.declared.statement.Statement.TheVariants as statement
@@ -26,7 +26,7 @@ use Rattle.dbc_grammar.specs.declared.statement.Note.{Note}
 use Rattle.dbc_grammar.specs.declared.statement.SignalForm.{SignalForm}
 use Rattle.dbc_grammar.specs.declared.statement.MessageForm.{MessageForm}
 use Rattle.dbc_grammar.specs.Limits.{first_long_id}
-use Rattle.dbc_grammar.specs.Statements.{no_mark, Stands}
+use Rattle.dbc_grammar.specs.Statements.{no_mark, Parses}
 use Rattle.dbc_grammar.specs.Naming.{Noted, independent, is_place, key_of, message_key, noted_in, places_in, notes_on, is_first_message}
 use Rattle.dbc_grammar.specs.Gather.{messages_in, notes_in, messages_of, notes_of, links_in, signal_links, message_links, message_marks, IsSignalOf, IsSignalAt}
 use Rattle.dbc_grammar.specs.Contract.{IsMessageAt, Gathers, AreStatements, IsDatabaseOf}
@@ -34,7 +34,7 @@ use Rattle.mill_database.specs.GeneratedText.{message_count, id_of, message_name
 use Rattle.mill_database.specs.GeneratedDatabase.{signal, generated_message, generated_database}
 use Rattle.mill_database.proofs.PieceLaws.{Piece, token_of, tokens_of, HasTexts}
 use Rattle.mill_database.proofs.BlockLaws.{string, blank, file_pieces, generated_tokens, generated_texts}
-use Rattle.mill_database.proofs.StatementLaws.{SignalText, SignalTexts, signal_form, signed_bytes, MessageTexts, message_texts, message_form, message_end, file_forms, file_stands, unit_at, s0, s1, s2, s3, s0_at, s1_at, s2_at, s3_at}
+use Rattle.mill_database.proofs.StatementLaws.{SignalText, SignalTexts, signal_form, signed_bytes, MessageTexts, message_texts, message_form, message_end, file_forms, file_parses, unit_at, s0, s1, s2, s3, s0_at, s1_at, s2_at, s3_at}
 use Rattle.mill_database.proofs.ScaleLaws.{half_scale, forty_scale, quarter_scale, one_scale}
 use Rattle.mill_database.proofs.ValidLaws.{is_made, keeps_rules}
 use Rattle.bench_model.specs.Check.{IsValid}
@@ -187,11 +187,11 @@ gathers tree =
       messages = subst (λ ms. AllZip (IsMessageAt generated_text true (noted_in generated_text (notes_of statements)) ms) (enumerate_from 0 ms) database) (sym (messages_are 0 0 message_count (omega arith))) noted;
     }
 
--- where no statement stands without tokens, trees are made without parents, and databases that keep the rules are valid
-pub is_database : Lacks (Any (Stands generated_text)) [] → ((n : ℕ) → IsTreeOver n (replicate n None)) → IsValid generated_database → IsDatabaseOf generated_text generated_database
+-- where no statement is without tokens, trees are made without parents, and databases that keep the rules are valid
+pub is_database : Lacks (Any (Parses generated_text)) [] → ((n : ℕ) → IsTreeOver n (replicate n None)) → IsValid generated_database → IsDatabaseOf generated_text generated_database
 is_database none tree valid = record {
   statements = statements;
-  are_statements = record { tokens = tokens_of 0 (file_pieces 0 message_count); are_tokens = generated_tokens; all = file_stands generated_text 0 0 message_count (omega arith) none generated_texts };
+  are_statements = record { tokens = tokens_of 0 (file_pieces 0 message_count); are_tokens = generated_tokens; all = file_parses generated_text 0 0 message_count (omega arith) none generated_texts };
   gathered = gathers (tree 4);
   valid = valid;
 }

@@ -1,5 +1,5 @@
 pub mod PieceLaws
-pub mod SpellingLaws
+pub mod LexemeLaws
 pub mod BlockLaws
 pub mod TextLaws
 pub mod StatementLaws

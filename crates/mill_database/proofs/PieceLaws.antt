@@ -5,8 +5,8 @@ use Rattle.std.specs.List.{flat_map}
 use Rattle.std.proofs.lemmas.List.{drop_at, take_at, append-nil}
 use Rattle.std.proofs.lemmas.List.Concat.{flat_map-append}
 use Rattle.sig_text.specs.Bytes.{is_space}
-use Rattle.sig_text.specs.Blank.{IsBlank, BlankSpelling, space, IsSpace}
-use Rattle.sig_text.specs.Spelling.{IsSpelling}
+use Rattle.sig_text.specs.Blank.{IsBlank, IsBlankText, space, IsSpace}
+use Rattle.sig_text.specs.Lexemes.{IsLexeme}
 use Rattle.sig_text.specs.Tokens.{IsToken, AreBlanks, IsGap, AreTokens, IsTokens}
 use Rattle.sig_text.specs.declared.token.TokenKind.{TokenKind}
 use Rattle.sig_text.specs.declared.token.Token.{Token}
@@ -38,7 +38,7 @@ tokens_of at (p ∷ ps) = token_of at p ∷ tokens_of (behind at p) ps
 -- no token begins with these bytes and one more
 abbrev pub Stops : List ℕ → List ℕ → Type 0
 Stops bytes [] = Unit {0}
-Stops bytes (c ∷ after) = (kind : TokenKind) (rest : List ℕ) → ¬ IsSpelling kind (bytes ++ c ∷ rest)
+Stops bytes (c ∷ after) = (kind : TokenKind) (rest : List ℕ) → ¬ IsLexeme kind (bytes ++ c ∷ rest)
 
 abbrev pub AreSpaces : List ℕ → Type 0
 AreSpaces [] = Unit {0}
@@ -47,7 +47,7 @@ AreSpaces (b ∷ bs) = IsTrue (is_space b) × AreSpaces bs
 -- a piece before this text is a token and blanks
 pub record IsPiece (p : Piece) (after : List ℕ) : Type 0 where
   pub some : 0 < length p.bytes
-  pub spelled : IsSpelling p.kind p.bytes
+  pub lexeme : IsLexeme p.kind p.bytes
   pub spaces : AreSpaces p.gap
   pub stops : Stops p.bytes (p.gap ++ after)
 
@@ -55,12 +55,12 @@ abbrev pub ArePieces : List Piece → List ℕ → Type 0
 ArePieces [] after = Unit {0}
 ArePieces (p ∷ ps) after = IsPiece p (render ps ++ after) × ArePieces ps after
 
--- the bytes of the text where the tokens of the pieces stand
+-- the bytes of the text where the tokens of the pieces are
 abbrev pub HasTexts : List ℕ → ℕ → List Piece → Type 0
 HasTexts text at [] = Unit {0}
 HasTexts text at (p ∷ ps) = (token_text text (token_of at p) ≡ p.bytes) × HasTexts text (behind at p) ps
 
--- what stands between two lists
+-- what is between two lists
 range_at : (before mid after : List ℕ) (from to : ℕ) → length before ≡ from → length mid + from ≡ to → slice_range (before ++ (mid ++ after)) from to ≡ mid
 range_at before mid after from to e f =
     let n : length mid ≡ to - from = omega arith in
@@ -73,7 +73,7 @@ take_past [] after c (suc n) h = (take n after, refl)
 take_past (b ∷ mid) after c zero h = absurd (omega arith)
 take_past (b ∷ mid) after c (suc n) h = let r = take_past mid after c n (omega arith) in (r.0, ap (λ xs. b ∷ xs) r.1)
 
--- a range that goes on behind what stands between two lists
+-- a range that goes on behind what is between two lists
 range_past : (before mid after : List ℕ) (c from to : ℕ) → length before ≡ from → length mid + from < to → (rest : List ℕ) × (slice_range (before ++ (mid ++ c ∷ after)) from to ≡ mid ++ c ∷ rest)
 range_past before mid after c from to e f =
     let r = take_past mid after c (to - from) (omega arith) in
@@ -87,12 +87,12 @@ gap_of text before (b ∷ gap) after at is e spaces =
     let blank : IsBlank text false at (at + 1) = record {
       ordered = omega arith;
       within = omega (arith, ap length is, length-append before (b ∷ (gap ++ after)));
-      spelled = space (b, ap (λ t. slice_range t at (at + 1)) is ∙ range_at before (b ∷ []) (gap ++ after) at (at + 1) e (omega arith), spaces.0);
+      lexeme = space (b, ap (λ t. slice_range t at (at + 1)) is ∙ range_at before (b ∷ []) (gap ++ after) at (at + 1) e (omega arith), spaces.0);
     } in
     let to : at + 1 + length gap ≡ at + length (b ∷ gap) = omega arith in
     ((at + 1) ∷ rest.0, (blank, subst (λ n. AreBlanks text false (at + 1) rest.0 n) to rest.1))
 
--- what stands before a piece, its token and its blanks
+-- what is before a piece, its token and its blanks
 before_piece : (text before : List ℕ) (p : Piece) (rest : List ℕ) → text ≡ before ++ (piece_text p ++ rest) → text ≡ before ++ (p.bytes ++ (p.gap ++ rest))
 before_piece text before p rest is = is ∙ ap (λ xs. before ++ xs) (append_assoc p.bytes p.gap rest)
 
@@ -105,24 +105,24 @@ behind_piece text before p rest is = is ∙ sym (append_assoc before (piece_text
 length_behind : (before : List ℕ) (at : ℕ) (p : Piece) → length before ≡ at → length (before ++ piece_text p) ≡ behind at p
 length_behind before at p e = omega (arith, length-append before (piece_text p), length-append p.bytes p.gap)
 
-token_stands : (text before : List ℕ) (at : ℕ) (p : Piece) (rest : List ℕ) → text ≡ before ++ (piece_text p ++ rest) → length before ≡ at → token_text text (token_of at p) ≡ p.bytes
-token_stands text before at p rest is e =
+token_parses : (text before : List ℕ) (at : ℕ) (p : Piece) (rest : List ℕ) → text ≡ before ++ (piece_text p ++ rest) → length before ≡ at → token_text text (token_of at p) ≡ p.bytes
+token_parses text before at p rest is e =
     ap (λ t. slice_range t at (at + length p.bytes)) (before_piece text before p rest is)
     ∙ range_at before p.bytes (p.gap ++ rest) at (at + length p.bytes) e (omega arith)
 
 -- no longer token begins there
-longest_of : (text before bytes after : List ℕ) (at : ℕ) → text ≡ before ++ (bytes ++ after) → length before ≡ at → Stops bytes after → (kind : TokenKind) (end : ℕ) → at + length bytes < end → end ≤ length text → IsSpelling kind (slice_range text at end) → ⊥
-longest_of text before bytes [] at is e stops kind end past inside spelled =
+longest_of : (text before bytes after : List ℕ) (at : ℕ) → text ≡ before ++ (bytes ++ after) → length before ≡ at → Stops bytes after → (kind : TokenKind) (end : ℕ) → at + length bytes < end → end ≤ length text → IsLexeme kind (slice_range text at end) → ⊥
+longest_of text before bytes [] at is e stops kind end past inside lexeme =
     omega (arith, ap length is, length-append before (bytes ++ []), length-append bytes [])
-longest_of text before bytes (c ∷ after) at is e stops kind end past inside spelled =
+longest_of text before bytes (c ∷ after) at is e stops kind end past inside lexeme =
     let r = range_past before bytes after c at end e (omega arith) in
-    stops kind r.0 (subst (λ s. IsSpelling kind s) (ap (λ t. slice_range t at end) is ∙ r.1) spelled)
+    stops kind r.0 (subst (λ s. IsLexeme kind s) (ap (λ t. slice_range t at end) is ∙ r.1) lexeme)
 
 token_is : (text before : List ℕ) (at : ℕ) (p : Piece) (rest : List ℕ) → text ≡ before ++ (piece_text p ++ rest) → length before ≡ at → IsPiece p rest → IsToken text (token_of at p)
 token_is text before at p rest is e piece = record {
   ordered = omega (arith, piece.some);
   within = omega (arith, ap length is, length-append before (piece_text p ++ rest), length-append (piece_text p) rest, length-append p.bytes p.gap);
-  spelled = subst (λ s. IsSpelling p.kind s) (sym (token_stands text before at p rest is e)) piece.spelled;
+  lexeme = subst (λ s. IsLexeme p.kind s) (sym (token_parses text before at p rest is e)) piece.lexeme;
   longest = longest_of text before p.bytes (p.gap ++ rest) at (before_piece text before p rest is) e piece.stops;
 }
 
@@ -142,7 +142,7 @@ tokens_are text before from at (p ∷ ps) is e gap pieces =
 pub texts_are : (text before : List ℕ) (at : ℕ) (ps : List Piece) → text ≡ before ++ render ps → length before ≡ at → HasTexts text at ps
 texts_are text before at [] is e = tt
 texts_are text before at (p ∷ ps) is e = (
-  token_stands text before at p (render ps) is e,
+  token_parses text before at p (render ps) is e,
   texts_are text (before ++ piece_text p) (behind at p) ps (behind_piece text before p (render ps) is) (length_behind before at p e),
 )
 

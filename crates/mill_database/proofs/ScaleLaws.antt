@@ -5,7 +5,7 @@ use Rattle.std.proofs.lemmas.Int.{unsigned_abs-mul}
 use Rattle.exact_scale.specs.declared.scaling.Scale.{Scale}
 use Rattle.exact_scale.specs.Fraction.{Fraction, IsSame, IsLeastDecimal}
 use Rattle.exact_scale.specs.Limits.{IsScale}
-use Rattle.exact_scale.specs.Spelling.{NoSign, Minus, Spelling, IsLawful, Denotes}
+use Rattle.exact_scale.specs.Numeral.{NoSign, Minus, Numeral, IsValid, Denotes}
 use Rattle.token_forms.specs.Scaling.{IsScaling}
 use Rattle.mill_database.specs.GeneratedDatabase.{scale}
 
@@ -30,9 +30,9 @@ quarter_places (suc (suc j)) n e = omega arith
 
 one : Denotes (codes "1") (pos 1) 0
 one = record {
-  spelling = record { sign = NoSign; whole = codes "1"; fraction = None; exponent = None };
-  spelled = record {
-    lawful = record { whole = ((omega arith, omega arith), tt); fraction = tt; some_digit = omega arith; exponent = tt };
+  numeral = record { sign = NoSign; whole = codes "1"; fraction = None; exponent = None };
+  written_so = record {
+    valid = record { whole = ((omega arith, omega arith), tt); fraction = tt; some_digit = omega arith; exponent = tt };
     joined = refl;
   };
   least = whole _ (pos 1) (record { cross = refl });
@@ -40,9 +40,9 @@ one = record {
 
 nought : Denotes (codes "0") (pos 0) 0
 nought = record {
-  spelling = record { sign = NoSign; whole = codes "0"; fraction = None; exponent = None };
-  spelled = record {
-    lawful = record { whole = ((omega arith, omega arith), tt); fraction = tt; some_digit = omega arith; exponent = tt };
+  numeral = record { sign = NoSign; whole = codes "0"; fraction = None; exponent = None };
+  written_so = record {
+    valid = record { whole = ((omega arith, omega arith), tt); fraction = tt; some_digit = omega arith; exponent = tt };
     joined = refl;
   };
   least = whole _ (pos 0) (record { cross = refl });
@@ -50,9 +50,9 @@ nought = record {
 
 minus_forty : Denotes (codes "-40") (negsuc 39) 0
 minus_forty = record {
-  spelling = record { sign = Minus; whole = codes "40"; fraction = None; exponent = None };
-  spelled = record {
-    lawful = record { whole = ((omega arith, omega arith), ((omega arith, omega arith), tt)); fraction = tt; some_digit = omega arith; exponent = tt };
+  numeral = record { sign = Minus; whole = codes "40"; fraction = None; exponent = None };
+  written_so = record {
+    valid = record { whole = ((omega arith, omega arith), ((omega arith, omega arith), tt)); fraction = tt; some_digit = omega arith; exponent = tt };
     joined = refl;
   };
   least = whole _ (negsuc 39) (record { cross = refl });
@@ -60,9 +60,9 @@ minus_forty = record {
 
 half : Denotes (codes "0.5") (pos 5) 1
 half = record {
-  spelling = record { sign = NoSign; whole = codes "0"; fraction = Some (codes "5"); exponent = None };
-  spelled = record {
-    lawful = record { whole = ((omega arith, omega arith), tt); fraction = ((omega arith, omega arith), tt); some_digit = omega arith; exponent = tt };
+  numeral = record { sign = NoSign; whole = codes "0"; fraction = Some (codes "5"); exponent = None };
+  written_so = record {
+    valid = record { whole = ((omega arith, omega arith), tt); fraction = ((omega arith, omega arith), tt); some_digit = omega arith; exponent = tt };
     joined = refl;
   };
   least = record { same = record { cross = refl }; least = λ j m same. half_places j (unsigned_abs m) (sizes _ m j same) };
@@ -70,9 +70,9 @@ half = record {
 
 quarter : Denotes (codes "0.25") (pos 25) 2
 quarter = record {
-  spelling = record { sign = NoSign; whole = codes "0"; fraction = Some (codes "25"); exponent = None };
-  spelled = record {
-    lawful = record { whole = ((omega arith, omega arith), tt); fraction = ((omega arith, omega arith), ((omega arith, omega arith), tt)); some_digit = omega arith; exponent = tt };
+  numeral = record { sign = NoSign; whole = codes "0"; fraction = Some (codes "25"); exponent = None };
+  written_so = record {
+    valid = record { whole = ((omega arith, omega arith), tt); fraction = ((omega arith, omega arith), ((omega arith, omega arith), tt)); some_digit = omega arith; exponent = tt };
     joined = refl;
   };
   least = record { same = record { cross = refl }; least = λ j m same. quarter_places j (unsigned_abs m) (sizes _ m j same) };

@@ -17,7 +17,7 @@ use Rattle.sig_text.specs.declared.token.Token.{Token}
 use Rattle.token_forms.specs.declared.numbers.SignedNumber.{SignedNumber}
 use Rattle.token_forms.specs.Pieces.{token_text}
 use Rattle.token_forms.specs.Numbers.{is_hexadecimal, signed_text}
-use Rattle.token_forms.specs.Stands.{◌▸◌, Any, Lacks, Optional, Each, One, Quoted, IsWord, IsString, IsNumber, HasValue, Whole, IsSignToken, OptionalSign, IsUnmarked, Signed}
+use Rattle.token_forms.specs.Grammar.{◌▸◌, Any, Lacks, Optional, Each, One, Quoted, IsWord, IsString, IsNumber, HasValue, Whole, IsSignToken, OptionalSign, IsUnmarked, Signed}
 use Rattle.dbc_grammar.specs.declared.statement.Statement.{Statement}
 use Rattle.dbc_grammar.specs.declared.statement.Statement.TheVariants as statement
 use Rattle.dbc_grammar.specs.declared.statement.Place.{Place}
@@ -27,7 +27,7 @@ use Rattle.dbc_grammar.specs.declared.statement.Heading.{Heading}
 use Rattle.dbc_grammar.specs.declared.statement.MessageForm.{MessageForm}
 use Rattle.dbc_grammar.specs.Limits.{small_limit}
 use Rattle.dbc_grammar.specs.Words.{is_word_kind, is_statement_word, is_free_word, form_words, unkept_words}
-use Rattle.dbc_grammar.specs.Statements.{Small, IsNode, no_mark, OptionalMark, order_digit, sign_of, StandsPlace, StandsScaling, Limits, Receiver, Receivers, place_of_first, SignalHead, StandsSignal, StandsHeading, StandsMessage, Stands}
+use Rattle.dbc_grammar.specs.Statements.{Small, IsNode, no_mark, OptionalMark, order_digit, sign_of, ParsesPlace, ParsesScaling, Limits, Receiver, Receivers, place_of_first, SignalHead, ParsesSignal, ParsesHeading, ParsesMessage, Parses}
 use Rattle.mill_database.specs.GeneratedText.{id_of, message_name, message_count}
 use Rattle.mill_database.proofs.PieceLaws.{Piece, token_of, behind, tokens_of, HasTexts}
 use Rattle.mill_database.proofs.BlockLaws.{word, number, mark, string, blank, next_line, last_line, heading_pieces, place_pieces, offset_pieces, scaling_pieces, limit_pieces, name_pieces, end_pieces, s0_pieces, s1_pieces, s2_pieces, s3_pieces, signals_pieces, message_pieces, file_pieces, decimal_digits}
@@ -95,10 +95,10 @@ Behind text at ps more = HasTexts text (skip at ps) more
 
 -- ---- the parts of a signal
 
-pub place_stands : (text : List ℕ) (at : ℕ) (start : List ℕ) (n : ℕ) (order : Order) (signed : Bool) (more : List Piece) → HasValue Decimal start small_limit n → HasTexts text at (place_pieces start (order_digit order) (sign_of signed) more)
-    → StandsPlace text (record { start = n; size = 16; order = order; signed = signed }) (tokens_of at (place_pieces start (order_digit order) (sign_of signed) more)) (tokens_of (skip at (place_pieces start (order_digit order) (sign_of signed) [])) more)
+pub place_parses : (text : List ℕ) (at : ℕ) (start : List ℕ) (n : ℕ) (order : Order) (signed : Bool) (more : List Piece) → HasValue Decimal start small_limit n → HasTexts text at (place_pieces start (order_digit order) (sign_of signed) more)
+    → ParsesPlace text (record { start = n; size = 16; order = order; signed = signed }) (tokens_of at (place_pieces start (order_digit order) (sign_of signed) more)) (tokens_of (skip at (place_pieces start (order_digit order) (sign_of signed) [])) more)
     × HasTexts text (skip at (place_pieces start (order_digit order) (sign_of signed) [])) more
-place_stands text at start n order signed more value h =
+place_parses text at start n order signed more value h =
     let size : HasValue Decimal (codes "16") small_limit 16 = record { digits = refl; value = refl; within = omega arith } in (
       (
         _,
@@ -136,10 +136,10 @@ scaling_form at factor minus offset = record {
   offset = offset_form (offset_at at factor) minus offset;
 }
 
-pub scaling_stands : (text : List ℕ) (at : ℕ) (factor : List ℕ) (sign : Bool) (offset : List ℕ) (more : List Piece) → IsPlainNumber factor → IsPlainNumber offset → HasTexts text at (scaling_pieces factor sign offset more)
-    → StandsScaling text (scaling_form at factor sign offset) (tokens_of at (scaling_pieces factor sign offset more)) (tokens_of (skip at (scaling_pieces factor sign offset [])) more)
+pub scaling_parses : (text : List ℕ) (at : ℕ) (factor : List ℕ) (sign : Bool) (offset : List ℕ) (more : List Piece) → IsPlainNumber factor → IsPlainNumber offset → HasTexts text at (scaling_pieces factor sign offset more)
+    → ParsesScaling text (scaling_form at factor sign offset) (tokens_of at (scaling_pieces factor sign offset more)) (tokens_of (skip at (scaling_pieces factor sign offset [])) more)
     × HasTexts text (skip at (scaling_pieces factor sign offset [])) more
-scaling_stands text at factor false offset more f o h = (
+scaling_parses text at factor false offset more f o h = (
   (
     _,
     quoted text (codes "(") _ _ h.0,
@@ -155,7 +155,7 @@ scaling_stands text at factor false offset more f o h = (
   ),
   h.1.1.1.1.1,
 )
-scaling_stands text at factor true offset more f o h = (
+scaling_parses text at factor true offset more f o h = (
   (
     _,
     quoted text (codes "(") _ _ h.0,
@@ -178,9 +178,9 @@ any_unsigned text bytes token rest kind e plain = (record { sign = None; number 
 zero_is_plain : IsPlainNumber (codes "0")
 zero_is_plain = record { begins = omega arith; unmarked = refl }
 
-pub limits_stand : (text : List ℕ) (at : ℕ) (more : List Piece) → HasTexts text at (limit_pieces more)
+pub limits_parse : (text : List ℕ) (at : ℕ) (more : List Piece) → HasTexts text at (limit_pieces more)
     → Limits text (tokens_of at (limit_pieces more)) (tokens_of (skip at (limit_pieces [])) more) × HasTexts text (skip at (limit_pieces [])) more
-limits_stand text at more h = (
+limits_parse text at more h = (
   (
     _,
     quoted text (codes "[") _ _ h.0,
@@ -197,17 +197,17 @@ limits_stand text at more h = (
   h.1.1.1.1.1,
 )
 
--- no Word stands at a colon
+-- no Word is at a colon
 no_mark_at : (token : Token) (rest : List Token) → token.kind ≡ Sign → Lacks (Any (One IsWord)) (token ∷ rest)
 no_mark_at token rest kind left (other, (same, is)) = let e : Sign ≡ Word = sym kind ∙ ap first_kind same ∙ is in cc
 
-pub head_stands : (text : List ℕ) (at : ℕ) (name : List ℕ) (more : List Piece) → HasTexts text at (name_pieces name more)
+pub head_parses : (text : List ℕ) (at : ℕ) (name : List ℕ) (more : List Piece) → HasTexts text at (name_pieces name more)
     → SignalHead text (token_of (behind at (word (codes "SG_") blank)) (word name blank)) no_mark (tokens_of at (name_pieces name more)) (tokens_of (skip at (name_pieces name [])) more)
     × HasTexts text (skip at (name_pieces name [])) more
-head_stands text at name more h =
+head_parses text at name more h =
     ((_, quoted text (codes "SG_") _ _ h.0, (_, (refl, refl), (_, inr (refl, refl, no_mark_at _ _ refl), quoted text (codes ":") _ _ h.1.1.0))), h.1.1.1)
 
--- ---- what stands behind a signal
+-- ---- what is behind a signal
 
 -- no tokens, or a first one of these bytes
 abbrev pub Begins : List ℕ → List ℕ → List Token → Type 0
@@ -237,8 +237,8 @@ unfolding form_words unkept_words
 mill_is_free text token kind e =
     and_from (is_word_kind token.kind) (not (is_statement_word (token_text text token))) (ap is_word_kind kind) (ap (λ s. not (is_statement_word s)) e)
 
-pub receivers_stand : (text word : List ℕ) (token : Token) (rest : List Token) → token.kind ≡ Word → token_text text token ≡ codes "Mill" → 44 < get_or word 0 0 → is_statement_word word ≡ true → Begins text word rest → Receivers text (token ∷ rest) rest
-receivers_stand text word token rest kind e less statement begins =
+pub receivers_parse : (text word : List ℕ) (token : Token) (rest : List Token) → token.kind ≡ Word → token_text text token ≡ codes "Mill" → 44 < get_or word 0 0 → is_statement_word word ≡ true → Begins text word rest → Receivers text (token ∷ rest) rest
+receivers_parse text word token rest kind e less statement begins =
     inl (rest, (token, (refl, mill_is_free text token kind e)), ([], (refl, lacks_receiver text word rest less statement begins)))
 
 -- ---- a signal
@@ -289,16 +289,16 @@ signal_form at s = record {
   unit = token_of (unit_at at s) (string (34 ∷ 34 ∷ []) blank);
 }
 
-pub signal_stands : (text : List ℕ) (at : ℕ) (s : SignalText) (gap next : List ℕ) (more : List Piece) → IsSignalText s → 44 < get_or next 0 0 → is_statement_word next ≡ true
+pub signal_parses : (text : List ℕ) (at : ℕ) (s : SignalText) (gap next : List ℕ) (more : List Piece) → IsSignalText s → 44 < get_or next 0 0 → is_statement_word next ≡ true
     → (HasTexts text (signal_end at s gap) more → Begins text next (tokens_of (signal_end at s gap) more)) → HasTexts text at (signal_pieces s gap more)
-    → StandsSignal text (signal_form at s) (tokens_of at (signal_pieces s gap more)) (tokens_of (signal_end at s gap) more) × HasTexts text (signal_end at s gap) more
-signal_stands text at s gap next more is less statement begins h =
-    let head = head_stands text at s.name (place_pieces s.start (order_digit s.order) (sign_of s.signed) (scaling_pieces s.factor s.minus s.offset (limit_pieces (end_pieces gap more)))) h in
-    let place = place_stands text (place_at at s) s.start s.place s.order s.signed (scaling_pieces s.factor s.minus s.offset (limit_pieces (end_pieces gap more))) is.start head.1 in
-    let scaling = scaling_stands text (scaling_at at s) s.factor s.minus s.offset (limit_pieces (end_pieces gap more)) is.factor is.offset place.1 in
-    let limits = limits_stand text (limits_at at s) (end_pieces gap more) scaling.1 in
+    → ParsesSignal text (signal_form at s) (tokens_of at (signal_pieces s gap more)) (tokens_of (signal_end at s gap) more) × HasTexts text (signal_end at s gap) more
+signal_parses text at s gap next more is less statement begins h =
+    let head = head_parses text at s.name (place_pieces s.start (order_digit s.order) (sign_of s.signed) (scaling_pieces s.factor s.minus s.offset (limit_pieces (end_pieces gap more)))) h in
+    let place = place_parses text (place_at at s) s.start s.place s.order s.signed (scaling_pieces s.factor s.minus s.offset (limit_pieces (end_pieces gap more))) is.start head.1 in
+    let scaling = scaling_parses text (scaling_at at s) s.factor s.minus s.offset (limit_pieces (end_pieces gap more)) is.factor is.offset place.1 in
+    let limits = limits_parse text (limits_at at s) (end_pieces gap more) scaling.1 in
     let mill = limits.1 in
-    ((refl, (_, head.0, (_, place.0, (_, scaling.0, (_, limits.0, (_, (refl, refl), receivers_stand text next _ _ refl mill.1.0 less statement (begins mill.1.1))))))), mill.1.1)
+    ((refl, (_, head.0, (_, place.0, (_, scaling.0, (_, limits.0, (_, (refl, refl), receivers_parse text next _ _ refl mill.1.0 less statement (begins mill.1.1))))))), mill.1.1)
 
 -- ---- a message
 
@@ -358,9 +358,9 @@ decimal_value n small = record {
   within = omega arith;
 }
 
-heading_stands : (text : List ℕ) (at j : ℕ) (more : List Piece) → j < 1000 → HasTexts text at (heading_pieces j more)
-    → StandsHeading text (message_form at j).heading (tokens_of at (heading_pieces j more)) (tokens_of (s0_at at j) more) × HasTexts text (s0_at at j) more
-heading_stands text at j more small h =
+heading_parses : (text : List ℕ) (at j : ℕ) (more : List Piece) → j < 1000 → HasTexts text at (heading_pieces j more)
+    → ParsesHeading text (message_form at j).heading (tokens_of at (heading_pieces j more)) (tokens_of (s0_at at j) more) × HasTexts text (s0_at at j) more
+heading_parses text at j more small h =
     let eight : HasValue Decimal (codes "8") small_limit 8 = record { digits = refl; value = refl; within = omega arith } in (
       (
         inl (omega arith),
@@ -377,21 +377,21 @@ heading_stands text at j more small h =
       h.1.1.1.1.1.1,
     )
 
--- no signal stands before a message or at the end
-lacks_signal : (text : List ℕ) (tokens : List Token) → Begins text (codes "BO_") tokens → Lacks (Any (StandsSignal text)) tokens
+-- no signal is before a message or at the end
+lacks_signal : (text : List ℕ) (tokens : List Token) → Begins text (codes "BO_") tokens → Lacks (Any (ParsesSignal text)) tokens
 lacks_signal text [] begins rest (s, (at, (first, (second, (token, (same, e)), head), more))) = no_token token second same
 lacks_signal text (one ∷ tokens) begins rest (s, (at, (first, (second, (token, (same, e)), head), more))) =
     other_first (codes "BO_") (codes "SG_") (omega arith) (sym begins ∙ ap (first_text text) same ∙ e)
 
-pub message_stands : (text : List ℕ) (at j : ℕ) (more : List Piece) → j < 1000 → (HasTexts text (message_end at j) more → Begins text (codes "BO_") (tokens_of (message_end at j) more)) → HasTexts text at (message_pieces j more)
-    → StandsMessage text (message_form at j) (tokens_of at (message_pieces j more)) (tokens_of (message_end at j) more) × HasTexts text (message_end at j) more
+pub message_parses : (text : List ℕ) (at j : ℕ) (more : List Piece) → j < 1000 → (HasTexts text (message_end at j) more → Begins text (codes "BO_") (tokens_of (message_end at j) more)) → HasTexts text at (message_pieces j more)
+    → ParsesMessage text (message_form at j) (tokens_of at (message_pieces j more)) (tokens_of (message_end at j) more) × HasTexts text (message_end at j) more
 unfolding form_words unkept_words
-message_stands text at j more small begins h =
-    let heading = heading_stands text at j (s0_pieces (s1_pieces (s2_pieces (s3_pieces more)))) small h in
-    let first = signal_stands text (s0_at at j) s0 next_line (codes "SG_") (s1_pieces (s2_pieces (s3_pieces more))) s0_is (omega arith) refl (λ t. t.0) heading.1 in
-    let second = signal_stands text (s1_at at j) s1 next_line (codes "SG_") (s2_pieces (s3_pieces more)) s1_is (omega arith) refl (λ t. t.0) first.1 in
-    let third = signal_stands text (s2_at at j) s2 next_line (codes "SG_") (s3_pieces more) s2_is (omega arith) refl (λ t. t.0) second.1 in
-    let fourth = signal_stands text (s3_at at j) s3 last_line (codes "BO_") more s3_is (omega arith) refl begins third.1 in
+message_parses text at j more small begins h =
+    let heading = heading_parses text at j (s0_pieces (s1_pieces (s2_pieces (s3_pieces more)))) small h in
+    let first = signal_parses text (s0_at at j) s0 next_line (codes "SG_") (s1_pieces (s2_pieces (s3_pieces more))) s0_is (omega arith) refl (λ t. t.0) heading.1 in
+    let second = signal_parses text (s1_at at j) s1 next_line (codes "SG_") (s2_pieces (s3_pieces more)) s1_is (omega arith) refl (λ t. t.0) first.1 in
+    let third = signal_parses text (s2_at at j) s2 next_line (codes "SG_") (s3_pieces more) s2_is (omega arith) refl (λ t. t.0) second.1 in
+    let fourth = signal_parses text (s3_at at j) s3 last_line (codes "BO_") more s3_is (omega arith) refl begins third.1 in
     ((_, heading.0, (_, first.0, (_, second.0, (_, third.0, (_, fourth.0, (refl, lacks_signal text _ (begins fourth.1))))))), fourth.1)
 
 -- ---- the file
@@ -405,21 +405,21 @@ unfolding file_pieces
 file_begins text at a zero h = tt
 file_begins text at a (suc n) h = h.0
 
--- the messages are all statements of the file, where no statement stands without tokens
-pub file_stands : (text : List ℕ) (at a n : ℕ) → a + n < 1000 → Lacks (Any (Stands text)) [] → HasTexts text at (file_pieces a n)
-    → Each (Stands text) (map statement.Message (file_forms at a n)) (tokens_of at (file_pieces a n)) []
+-- the messages are all statements of the file, where no statement is without tokens
+pub file_parses : (text : List ℕ) (at a n : ℕ) → a + n < 1000 → Lacks (Any (Parses text)) [] → HasTexts text at (file_pieces a n)
+    → Each (Parses text) (map statement.Message (file_forms at a n)) (tokens_of at (file_pieces a n)) []
 unfolding file_pieces file_forms
-file_stands text at a zero small none h = (refl, none)
-file_stands text at a (suc n) small none h =
-    let m = message_stands text at a (file_pieces (a + 1) n) (omega arith) (file_begins text (message_end at a) (a + 1) n) h in
-    (_, m.0, file_stands text (message_end at a) (a + 1) n (omega arith) none m.1)
+file_parses text at a zero small none h = (refl, none)
+file_parses text at a (suc n) small none h =
+    let m = message_parses text at a (file_pieces (a + 1) n) (omega arith) (file_begins text (message_end at a) (a + 1) n) h in
+    (_, m.0, file_parses text (message_end at a) (a + 1) n (omega arith) none m.1)
 
 -- ---- what is known of the text behind parts
 
 signal_behind : (text : List ℕ) (at : ℕ) (s : SignalText) (gap : List ℕ) (more : List Piece) → IsSignalText s → HasTexts text at (signal_pieces s gap more) → HasTexts text (signal_end at s gap) more
 signal_behind text at s gap more is h =
-    let place = place_stands text (place_at at s) s.start s.place s.order s.signed (scaling_pieces s.factor s.minus s.offset (limit_pieces (end_pieces gap more))) is.start h.1.1.1 in
-    let scaling = scaling_stands text (scaling_at at s) s.factor s.minus s.offset (limit_pieces (end_pieces gap more)) is.factor is.offset place.1 in
+    let place = place_parses text (place_at at s) s.start s.place s.order s.signed (scaling_pieces s.factor s.minus s.offset (limit_pieces (end_pieces gap more))) is.start h.1.1.1 in
+    let scaling = scaling_parses text (scaling_at at s) s.factor s.minus s.offset (limit_pieces (end_pieces gap more)) is.factor is.offset place.1 in
     scaling.1.1.1.1.1.1.1.1
 
 -- the texts that a signal's tokens have
@@ -441,7 +441,7 @@ offset_texts text at factor true offset more h =
 
 signal_texts : (text : List ℕ) (at : ℕ) (s : SignalText) (gap : List ℕ) (more : List Piece) → IsSignalText s → HasTexts text at (signal_pieces s gap more) → SignalTexts text at s
 signal_texts text at s gap more is h =
-    let place = place_stands text (place_at at s) s.start s.place s.order s.signed (scaling_pieces s.factor s.minus s.offset (limit_pieces (end_pieces gap more))) is.start h.1.1.1 in
+    let place = place_parses text (place_at at s) s.start s.place s.order s.signed (scaling_pieces s.factor s.minus s.offset (limit_pieces (end_pieces gap more))) is.start h.1.1.1 in
     record {
       name = h.1.0;
       factor = place.1.1.0;

@@ -5,7 +5,7 @@ use Rattle.std.specs.List.{flat_map}
 use Rattle.std.proofs.lemmas.Bool.{cases_Bool, cond-true, cond-false}
 use Rattle.byte_forms.specs.Hexadecimal.{hex_digits}
 use Rattle.byte_forms.specs.Lines.{onto_first, all_lines}
-use Rattle.mill_log.specs.GeneratedLog.{frame_number, identifier_of, low_bytes, line_front, line_of_frame, log_from}
+use Rattle.mill_log.specs.GeneratedLog.{frame_number, identifier_of, low_bytes, line_prefix, line_of_frame, log_from}
 use Rattle.mill_log.proofs.LogLaws.{log_append}
 
 -- a text that ends in a line feed has a line
@@ -20,7 +20,7 @@ some_line (b ∷ x) =
       | inr e ↦ (b ∷ r.0, r.1, cond-false (b == 10) ([] ∷ later) (onto_first b later) e ∙ ap (onto_first b) r.2)
     ]
 
--- behind a line feed the lines are those of what stands there
+-- behind a line feed the lines are those of what is there
 lines_append : (x ys : List ℕ) → all_lines (x ++ 10 ∷ ys) ≡ all_lines (x ++ 10 ∷ []) ++ all_lines ys
 unfolding all_lines
 lines_append [] ys = refl
@@ -39,14 +39,14 @@ lines_append (b ∷ x) ys =
 
 -- the line of a frame ends in a line feed
 before_feed : ℕ → ℕ → List ℕ
-before_feed i x = line_front i ++ (hex_digits 3 (identifier_of x) ++ (codes "#" ++ flat_map (hex_digits 2) (low_bytes 8 x)))
+before_feed i x = line_prefix i ++ (hex_digits 3 (identifier_of x) ++ (codes "#" ++ flat_map (hex_digits 2) (low_bytes 8 x)))
 
 regroup : (a b c d e : List ℕ) → a ++ (b ++ (c ++ (d ++ e))) ≡ (a ++ (b ++ (c ++ d))) ++ e
 regroup a b c d e = sym (simp append_assoc)
 
 line_ends : (i x : ℕ) → line_of_frame i x ≡ before_feed i x ++ 10 ∷ []
 unfolding line_of_frame before_feed
-line_ends i x = regroup (line_front i) (hex_digits 3 (identifier_of x)) (codes "#") (flat_map (hex_digits 2) (low_bytes 8 x)) (10 ∷ [])
+line_ends i x = regroup (line_prefix i) (hex_digits 3 (identifier_of x)) (codes "#") (flat_map (hex_digits 2) (low_bytes 8 x)) (10 ∷ [])
 
 behind_line : (i x : ℕ) (ys : List ℕ) → all_lines (line_of_frame i x ++ ys) ≡ all_lines (line_of_frame i x) ++ all_lines ys
 behind_line i x ys =

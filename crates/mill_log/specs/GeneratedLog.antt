@@ -38,15 +38,15 @@ unfoldable pub padded : ℕ → ℕ → List ℕ
 padded places n = last_digits places n
 
 -- `(0000000000.000000) can0 ` and `11B#7C00FD43AC6F576C`
-abbrev pub line_front : ℕ → List ℕ
-line_front i =
+abbrev pub line_prefix : ℕ → List ℕ
+line_prefix i =
     codes "(" ++ (padded 10 (stamp_of i / 1000000) ++ (codes "." ++ (padded 6 (stamp_of i % 1000000) ++ codes ") can0 ")))
 
 abbrev pub line_body : ℕ → List ℕ
 line_body x = hex_digits 3 (identifier_of x) ++ (codes "#" ++ (flat_map (hex_digits 2) (low_bytes 8 x) ++ codes "\n"))
 
 unfoldable pub line_of_frame : ℕ → ℕ → List ℕ
-line_of_frame i x = line_front i ++ line_body x
+line_of_frame i x = line_prefix i ++ line_body x
 
 -- the lines of so many frames from one on, and the whole log, whose seed is the number of its frames
 unfoldable pub log_from : ℕ → ℕ → ℕ → List ℕ

@@ -3,7 +3,7 @@
 ghost use Rattle.std.specs.Prelude.{◌≡◌, ◌++◌, ◌+◌, ◌<◌, ◌^◌, ℕ, OnOk, IfOk};
 ghost use Rattle.std.specs.List.{flat_map};
 ghost use Rattle.byte_forms.specs.Hexadecimal.{hex_digits};
-ghost use Rattle.mill_log.specs.GeneratedLog.{number_after, number_at, low_bytes, line_front, line_body, line_of_frame, log_from};
+ghost use Rattle.mill_log.specs.GeneratedLog.{number_after, number_at, low_bytes, line_prefix, line_body, line_of_frame, log_from};
 
 use crate::digits::{last_six, last_ten, last_three_hex};
 use byte_forms::hex_of_byte;
@@ -45,7 +45,7 @@ fn push_bytes(out: &mut Vec<u8>, x: u64) -> Result<(), AllocError>
 
 /// Appends the line of frame `i` up to its identifier.
 fn push_front(out: &mut Vec<u8>, i: u32) -> Result<(), AllocError>
-    ensures { OnOk result (out.new.items ≡ out.old.items ++ line_front i) }
+    ensures { OnOk result (out.new.items ≡ out.old.items ++ line_prefix i) }
 {
     let stamp = u64::from(i) * STEP;
     out.extend_from_slice(b"(")?;
@@ -76,8 +76,8 @@ fn push_line(out: &mut Vec<u8>, i: u32, x: u64) -> Result<(), AllocError>
     push_body(out, x)
 }
 
-/// Appends the lines of so many frames from frame `first` on, before which the generator stands at `x`, and answers where
-/// it stands behind them: the seed stands before frame 0.
+/// Appends the lines of so many frames from frame `first` on, before which the generator is at `x`, and answers where
+/// it is behind them: the seed is before frame 0.
 pub fn push_frames(out: &mut Vec<u8>, first: u32, count: u32, x: u64) -> Result<u64, AllocError>
     requires { first + count < 2 ^ 32 }
     ensures lines { (seed : ℕ) → x ≡ number_at seed first →

@@ -1,7 +1,7 @@
 //! The log that is made for `mill`, the tool's own workload, piece by piece: frames on one CAN bus whose identifiers and bytes
 //! follow from a generator of numbers.
 //!
-//! It stands on `byte_forms` (hexadecimal digits), on the digits of `exact_scale` and on `port_io` (sources); what runs `mill`
+//! It builds on `byte_forms` (hexadecimal digits), on the digits of `exact_scale` and on `port_io` (sources); what runs `mill`
 //! makes a piece, decodes its lines and makes the next one, in memory that does not grow with the log.
 //!
 //! Main theorem: `push_frames` appends exactly the lines of the frames asked for and answers the number that the next piece

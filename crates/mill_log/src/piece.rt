@@ -41,7 +41,7 @@ impl Source for LogPiece {
 
     ghost other = { λ _. no_other_side };
 
-    ghost told_alike = { λ _. refl };
+    ghost known_alike = { λ _. refl };
 
     fn read(&mut self, buf: &mut [u8]) -> Result<usize, Failed> {
         self.source.read(buf)

@@ -125,7 +125,7 @@ same_below parents raws n i same None e ends = refl
 same_below parents raws n i same (Some p) e ends =
     ap (λ (b : Bool). b && selects raws p) (same p.signal (ends_above parents (suc n) i p e ends))
 
--- where no more than n parents stand above a signal, n levels tell as much as more
+-- where no more than n parents are above a signal, n levels tell as much as more
 one_level_more : (parents : List (Option Parent)) (raws : List (Option ℤ)) (n i : ℕ) → IsNone (ancestor (signals_above parents) (suc n) i) →
     is_active_within n parents raws i ≡ is_active_within (suc n) parents raws i
 unfolding is_active_within ancestor

@@ -219,7 +219,7 @@ never_ends_is_reaching ups i = (
 pub never_ends : (ups : List (Option ℕ)) (m i : ℕ) → length ups < m → reaches ups m i ≡ true → NeverEnds ups i
 never_ends ups m i h far = (never_ends_is_reaching ups i).1 (reaches_all ups m i h far)
 
--- nothing stands above a signal that is not there
+-- nothing is above a signal that is not there
 pub none_past : (ups : List (Option ℕ)) (n i : ℕ) → 0 < n → length ups ≤ i → IsNone (ancestor ups n i)
 none_past ups zero i some h = absurd (omega arith)
 none_past ups (suc n) i some h = rw (ancestor-first ups n i) (rw (past_end ups i h) refl)

@@ -82,7 +82,7 @@ tree_over marks links parents tree = record {
   shallow = tree.shallow;
 }
 
--- marks and links that make a tree: each signal is a multiplexor, those with a parent stand in group 0 and have one link
+-- marks and links that make a tree: each signal is a multiplexor, those with a parent are in group 0 and have one link
 abbrev mark_for : Option Parent → Mark
 mark_for None = record { multiplexor = true; group = None }
 mark_for (Some p) = record { multiplexor = true; group = Some 0 }

@@ -30,14 +30,14 @@ pub data Ends (ups : List (Option ℕ)) : ℕ → Type 0 where
 abbrev pub NeverEnds : List (Option ℕ) → ℕ → Type 0
 NeverEnds ups i = ¬ Ends ups i
 
--- how many parents may stand above a signal: a limit of this project
+-- how many parents may be above a signal: a limit of this project
 abbrev pub most_parents : ℕ
 most_parents = 8
 
--- more parents than that stand above the signal
+-- more parents than that are above the signal
 abbrev pub IsDeep : List (Option ℕ) → ℕ → Type 0
 IsDeep ups i = IsSome (ancestor ups (most_parents + 1) i)
 
--- at most so many parents stand above each signal
+-- at most so many parents are above each signal
 abbrev pub IsShallow : List (Option ℕ) → Type 0
 IsShallow ups = (i : ℕ) → IsNone (ancestor ups (most_parents + 1) i)

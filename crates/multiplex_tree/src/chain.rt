@@ -1,4 +1,4 @@
-//! Chains of parents: how many signals stand above each, and whether their chain ends.
+//! Chains of parents: how many signals are above each, and whether their chain ends.
 
 ghost use Rattle.std.specs.Prelude.{◌≡◌, ◌+◌, ℕ, map, IfOk, IfErr, OnOk, MatchOption, IsNone, length};
 ghost use Rattle.multiplex_tree.specs.Chain.{most_parents, parent_in, next_up, ancestor, IsShallow};
@@ -8,7 +8,7 @@ ghost use Rattle.multiplex_tree.specs.Fault.{IsChainFault};
 use crate::{MuxFault, MuxWhy};
 use std::alloc::{AllocError, Global};
 
-/// How many parents may stand above a signal: a limit of this project.
+/// How many parents may be above a signal: a limit of this project.
 pub(crate) const MOST_PARENTS: usize = 8;
 
 /// The signal above one that may not be there.

@@ -50,7 +50,7 @@ impl Claim {
 }
 
 /// So many signals without links.
-fn unlinked(alloc: Global, count: usize) -> Result<Vec<Claim>, AllocError>
+fn unlinked_claims(alloc: Global, count: usize) -> Result<Vec<Claim>, AllocError>
     ensures len { IfOk result (λ claims. vec_len claims ≡ count) }
     ensures each { IfOk result (λ claims. (i : ℕ) → slice_index_or claims.items i Unlinked ≡ Unlinked) }
 {
@@ -71,7 +71,7 @@ pub(crate) fn claims_of(
     ensures len { IfOk result (λ claims. vec_len claims ≡ count) }
     ensures each { IfOk result (λ claims. (i : ℕ) → slice_index_or claims.items i Unlinked ≡ claim_of (links_to i links.now)) }
 {
-    let mut claims = unlinked(alloc, count)?;
+    let mut claims = unlinked_claims(alloc, count)?;
     for link in links {
         let before = mem::replace(&mut claims[link.child], Claim::Unlinked);
         claims[link.child] = before.join(alloc, link)?;

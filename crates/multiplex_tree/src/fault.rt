@@ -14,8 +14,8 @@ pub enum MuxWhy {
     /// Its chain of parents never ends.
     #[error("its chain of parents never ends")]
     Cycle = 3,
-    /// More than 8 parents stand above it.
-    #[error("more than 8 parents stand above it")]
+    /// More than 8 parents are above it.
+    #[error("more than 8 parents above_it above it")]
     Deep = 4,
 }
 

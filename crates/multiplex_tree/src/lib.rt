@@ -1,13 +1,13 @@
 //! Which signals of a message are active: extended multiplexing as the DBC format means it.
 //!
-//! A signal's mark says whether it selects others, a multiplexor, and in which group of values it stands;
+//! A signal's mark says whether it selects others, a multiplexor, and in which group of values it is;
 //! links (`SG_MUL_VAL_`) name a parent with ranges. A reader of databases hands both to `resolve`; a decoder
 //! asks `Tree::active`, or goes from parent to parent by the laws of `laws`. `bench_model` keeps the tree with
 //! each message, and the crates above take `List` from here, a vector that contracts see as a list. The crate
-//! stands on std and `thiserror`.
+//! builds on std and `thiserror`.
 //!
 //! The theorem: `resolve` answers the tree of parents exactly where each signal has one parent or none and at
-//! most 8 parents stand above it, else the first fault, unless memory runs out; and `Tree::active` says exactly
+//! most 8 parents are above it, else the first fault, unless memory runs out; and `Tree::active` says exactly
 //! whether every parent above a signal selects the one below it.
 #![tactic(auto)]
 

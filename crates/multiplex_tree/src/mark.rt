@@ -9,7 +9,7 @@ pub struct Range {
     pub high: u64,
 }
 
-/// A signal's multiplexer indicator in the DBC format: `M` is a multiplexor, `m3` stands in group 3, and `m3M`
+/// A signal's multiplexer indicator in the DBC format: `M` is a multiplexor, `m3` is in group 3, and `m3M`
 /// is both.
 #[derive(Clone, Copy, Debug, PartialEq, Eq)]
 pub struct Mark {

@@ -41,7 +41,7 @@ fn is_parent(marks: &[Mark], signal: usize) -> bool
 }
 
 /// The parent of a signal in `group` whose links claim this.
-fn claimed(
+fn claim_parent(
     alloc: Global,
     marks: &[Mark],
     selector: Result<usize, MuxWhy>,
@@ -92,7 +92,7 @@ fn parent_of(
 {
     match mark.group {
         None => Ok(Ok(None)),
-        Some(group) => Ok(claimed(alloc, marks, selector, group, claim)?.map(Some)),
+        Some(group) => Ok(claim_parent(alloc, marks, selector, group, claim)?.map(Some)),
     }
 }
 

@@ -50,7 +50,7 @@ fn tree_of(alloc: Global, marks: &[Mark], links: &[Link]) -> Result<Tree, MuxFau
 }
 
 /// The tree of parents that marks and links make, where each signal has one parent or none and at most 8
-/// parents stand above it. A signal without group has no parent. Links to the others name their parent, which
+/// parents are above it. A signal without group has no parent. Links to the others name their parent, which
 /// has to be one multiplexor; without links it is the one multiplexor without group, with that group's value.
 ///
 /// The fault is the first signal whose parent is missing or not one (`NoParent`, `Ambiguous`), else the first whose
@@ -63,7 +63,7 @@ pub fn resolve(alloc: Global, marks: &[Mark], links: &[Link]) -> Result<Tree, Mu
     ensures tree { IfOk result (λ tree. IsTree marks.now links.now tree.parents) }
     ensures fault { IfErr result (IsFault marks.now links.now) }
 
-    // Whatever the marks and links are, each parent is one of the signals, and no more stand above one than may.
+    // Whatever the marks and links are, each parent is one of the signals, and no more are above one than may.
     ensures over { IfOk result (λ tree. IsTreeOver (length marks.now) tree.parents) }
 
     // What is true of them is answered, unless memory runs out.

@@ -6,7 +6,7 @@ use Rattle.std.proofs.lemmas.Grind.{common_steps}
 use borrow.Rule.Slice.PartMut.{put_mid, post_of}
 use Rattle.std.specs.List.{between}
 
--- the bytes copied, then those that stand past them
+-- the bytes copied, then those that are past them
 pub left_parted : (bytes to : List ℕ) (p n : ℕ) → take n to ≡ take n (between p (length bytes) bytes) → Some (drop p bytes) ≡ Some (take n to ++ drop (p + n) bytes)
 left_parted bytes to p n copied = ap (λ (l : List ℕ). Some l) (sym parts)
   where
@@ -19,10 +19,10 @@ pub taken_parted : (bytes to : List ℕ) (p n : ℕ) → take n to ≡ take n (b
 taken_parted bytes to p n copied = ap (λ (l : List ℕ). Some l)
     (take-add p n bytes ∙ ap (λ (l : List ℕ). take p bytes ++ l) (sym (copied ∙ ap (λ (l : List ℕ). take n l) (take_rest bytes p))))
 
--- the front up to the place, then the bytes copied over what stood there
+-- the prefix up to the place, then the bytes copied over what was there
 pub written_over : (room to piece : List ℕ) (a n k : ℕ) → a ≤ length room → n ≤ length to → take n to ≡ take n piece → take (a + n) (put_mid a k room to) ≡ take a room ++ take n piece
 written_over room to piece a n k within copies copied =
-    let front : length (take a room) ≡ a = grind (arith, common_steps) in
-    ap (λ (m : ℕ). take (m + n) (put_mid a k room to)) (sym front)
+    let prefix : length (take a room) ≡ a = grind (arith, common_steps) in
+    ap (λ (m : ℕ). take (m + n) (put_mid a k room to)) (sym prefix)
     ∙ take-append-add (take a room) (to ++ post_of a k room) n
     ∙ ap (λ (l : List ℕ). take a room ++ l) (take-append-le n to (post_of a k room) copies ∙ copied)

@@ -15,10 +15,10 @@ done_more piece done rest n before was now parted written wrote =
 
 -- while some of the piece is left, what is done is a part of it
 pub done_in_part : (piece done rest : List ℕ) (before now : Option (List ℕ)) → piece ≡ done ++ rest → 0 < length rest → now ≡ append_known before done → (n : ℕ) × (n < length piece) × (now ≡ append_known before (take n piece))
-done_in_part piece done rest before now parted some written = (length done, shorter, written ∙ ap (append_known before) (sym front))
+done_in_part piece done rest before now parted some written = (length done, shorter, written ∙ ap (append_known before) (sym prefix))
   where
     shorter : length done < length piece
     shorter = omega (arith, ap length parted, length-append done rest)
 
-    front : take (length done) piece ≡ done
-    front = ap (λ (l : List ℕ). take (length done) l) parted ∙ take_at done rest (length done) refl
+    prefix : take (length done) piece ≡ done
+    prefix = ap (λ (l : List ℕ). take (length done) l) parted ∙ take_at done rest (length done) refl

@@ -1,7 +1,7 @@
 -- Counts of faults: a call that answers a fault has raised its object's count.
 use Rattle.std.specs.Prelude.{ℕ, ◌+◌, ◌-◌, ◌^◌, ◌≤◌, min, max, Result, OnErr}
 
--- a count rose by one at least, or stands at the end of 64 bits
+-- a count rose by one at least, or is at the end of 64 bits
 abbrev pub Rose : ℕ → ℕ → Type 0
 Rose before now = min (before + 1) (2 ^ 64 - 1) ≤ now
 
@@ -15,6 +15,6 @@ pub record Explains (before now : ℕ) (answer : Type 0) : Type 0 where
   pub later : before ≤ now
   pub cause : answer → Rose before now
 
--- a count after one rise; at the end of 64 bits it stands still
+-- a count after one rise; at the end of 64 bits it stays as it is
 abbrev pub raised : ℕ → ℕ
 raised count = max count (min (count + 1) (2 ^ 64 - 1))

@@ -9,7 +9,7 @@ abbrev pub named : List (List ℕ × List ℕ) → List ℕ → Option (List ℕ
 named [] name = None
 named (file ∷ files) name = if bytes_eq file.0 name then Some file.1 else named files name
 
--- the file of that name is there, where the files are told, and these are its bytes
+-- the file of that name is there, where the files are known, and these are its bytes
 abbrev pub OpensFile : Option (List (List ℕ × List ℕ)) → List ℕ → Option (List ℕ) → Type 0
 OpensFile None name bytes = bytes ≡ None
 OpensFile (Some files) name bytes = (named files name ≡ bytes) × IsSome bytes
@@ -22,7 +22,7 @@ pub record IsFreshLog (files : Option (List (List ℕ × List ℕ))) (name : Lis
   pub no_faults : read_faults ≡ 0
   pub not_ended : ended ≡ false
 
--- the number of calls for names that told files do not have, after a call for this name
+-- the number of calls for names that known files do not have, after a call for this name
 abbrev pub strays_after : Option (List (List ℕ × List ℕ)) → List ℕ → ℕ → ℕ
 strays_after None name strays = strays
 strays_after (Some files) name strays = if is_some (named files name) then strays else raised strays

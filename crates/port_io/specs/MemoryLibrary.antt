@@ -21,8 +21,8 @@ pub record MemoryLibrary : Type 0 where
   pub strays : ℕ
 
 -- the names and the bytes, which it tells
-abbrev pub told_files : MemoryLibrary → Option (List (List ℕ × List ℕ))
-told_files l = Some (entries_of l.files)
+abbrev pub known_files : MemoryLibrary → Option (List (List ℕ × List ℕ))
+known_files l = Some (entries_of l.files)
 
 -- no call was made yet
 abbrev pub unopened : List MemFile → List ℕ → MemoryLibrary
@@ -47,7 +47,7 @@ abbrev pub after_open : MemoryLibrary → List ℕ → Bool → MemoryLibrary
 after_open l name did = record l {
   calls = raised l.calls;
   open_faults = if did then l.open_faults else raised l.open_faults;
-  strays = strays_after (told_files l) name l.strays;
+  strays = strays_after (known_files l) name l.strays;
 }
 
 -- the library with that file begun

@@ -1,15 +1,15 @@
 -- The other side of a source or a sink: plain data that reading or writing leaves as it is. What is one end of a link
--- shows there the link's other end and whether the link was closed; what stands alone shows nothing.
+-- shows there the link's other end and whether the link was closed; what is alone shows nothing.
 use Rattle.std.specs.Prelude.{ℕ, Bool, false, List, Option, None}
 
--- what a source tells: the bytes left and taken (where told), its count of faults, whether a read has said the end
+-- what a source tells: the bytes left and taken (where known), its count of faults, whether a read has said the end
 pub record SourceState : Type 0 where
   pub left : Option (List ℕ)
   pub taken : Option (List ℕ)
   pub read_faults : ℕ
   pub ended : Bool
 
--- what a sink tells: the bytes written (where told) and its count of faults
+-- what a sink tells: the bytes written (where known) and its count of faults
 pub record SinkState : Type 0 where
   pub written : Option (List ℕ)
   pub write_faults : ℕ

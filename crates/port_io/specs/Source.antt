@@ -7,7 +7,7 @@ abbrev pub ReadsFrom : {E : Type 0} → Option (List ℕ) → Option (List ℕ) 
 ReadsFrom before now result buf =
     MatchResult result (λ n. before ≡ prepend_known (take n buf) now) (λ _. now ≡ before)
 
--- `Ok(0)` comes exactly where nothing is left, where that is told
+-- `Ok(0)` comes exactly where nothing is left, where that is known
 abbrev pub SaysEnd : {E : Type 0} → Option (List ℕ) → Result ℕ E → Type 0
 SaysEnd before result = IfOk result (λ n. IfSome before (λ bytes. (n ≡ 0) ↔ (bytes ≡ [])))
 

@@ -1,4 +1,4 @@
-//! Counts that stand still at their end.
+//! Counts that stay as they are at their end.
 ghost use Rattle.std.specs.Prelude.{◌≡◌};
 ghost use Rattle.port_io.specs.Causes.{raised};
 

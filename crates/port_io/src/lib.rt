@@ -1,5 +1,5 @@
 //! The outside of the signal server as traits: a source gives bytes, a sink takes them, a library
-//! opens files by name. It stands on std and `thiserror` alone; `bench_server` reads files and writes
+//! opens files by name. It builds on std and `thiserror` alone; `bench_server` reads files and writes
 //! text through it, and `sigserve` gives it the real ones.
 //!
 //! Each trait says which bytes a call moved and counts the calls that failed, so that what a layer
@@ -10,7 +10,7 @@
 //!
 //! The main theorem: `read_whole` answers Ok, where the library tells its files, with the named
 //! file's bytes and no others, `Open` and `Read` only where the library's own count of such faults rose, and `Long` exactly where more
-//! than the limit was taken; want of memory alone is free.
+//! than the limit was taken; out of memory alone is free.
 //!
 //! The member `other` of sources and sinks is for the two ends of a connection, which are to come.
 #![tactic(auto)]

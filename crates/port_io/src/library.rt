@@ -23,14 +23,14 @@ pub trait Library {
     /// Whether a file is begun.
     ghost begun: { Self → Bool };
 
-    /// How many calls of `begin` and `log` have failed. At `2^64 - 1` the count stands still.
+    /// How many calls of `begin` and `log` have failed. At `2^64 - 1` the count stays as it is.
     ghost open_faults: { Self → ℕ };
 
-    /// How many calls of `more` have failed. At `2^64 - 1` the count stands still.
+    /// How many calls of `more` have failed. At `2^64 - 1` the count stays as it is.
     ghost more_faults: { Self → ℕ };
 
-    /// How many calls of `begin` and `log` named a file that the told files do not have. At `2^64 -
-    /// 1` it stands still.
+    /// How many calls of `begin` and `log` named a file that the known files do not have. At `2^64 -
+    /// 1` it stays as it is.
     ghost strays: { Self → ℕ };
 
     /// Begins the file of that name, and gives up the one before. A name that is not there is a
@@ -75,6 +75,6 @@ pub trait Library {
         ensures strays { strays self.new
             ≡ strays_after (files self.old) name.now (strays self.old) };
 
-    /// Where the files are not told, no name is astray.
-    ghost untold_strays: { (library : Self) → files library ≡ None → strays library ≡ 0 };
+    /// Where the files are not known, no name is astray.
+    ghost unknown_strays: { (library : Self) → files library ≡ None → strays library ≡ 0 };
 }

@@ -103,9 +103,9 @@ impl<'a> Library for MemLibrary<'a> {
     ghost use Rattle.std.proofs.lemmas.Option.{none-some};
     ghost use Rattle.port_io.specs.MemLog.{reader_of};
     ghost use Rattle.port_io.specs.MemoryReader.{bytes_left, bytes_taken};
-    ghost use Rattle.port_io.specs.MemoryLibrary.{told_files, BeginsMemory, GivesMemory, OpensMemory};
+    ghost use Rattle.port_io.specs.MemoryLibrary.{known_files, BeginsMemory, GivesMemory, OpensMemory};
 
-    ghost files = { λ l. told_files (state_of l) };
+    ghost files = { λ l. known_files (state_of l) };
 
     ghost left = { λ l. Some (state_of l).rest };
 
@@ -117,18 +117,18 @@ impl<'a> Library for MemLibrary<'a> {
 
     ghost strays = { λ l. (state_of l).strays };
 
-    ghost untold_strays = { λ l untold. absurd (none-some _ (sym untold)) };
+    ghost unknown_strays = { λ l unknown. absurd (none-some _ (sym unknown)) };
 
     fn begin(&mut self, name: &str) -> Result<(), Failed>
         ensures opened { OnOk result
-            (OpensFile (told_files (state_of self.old)) name.now (Some (state_of self.new).rest)) }
+            (OpensFile (known_files (state_of self.old)) name.now (Some (state_of self.new).rest)) }
         ensures begun { (state_of self.new).begun ≡ is_ok result }
-        ensures files { told_files (state_of self.new) ≡ told_files (state_of self.old) }
+        ensures files { known_files (state_of self.new) ≡ known_files (state_of self.old) }
         ensures cause { HasCause (state_of self.old).open_faults (state_of self.new).open_faults
             result }
         ensures more_faults { (state_of self.new).more_faults ≡ (state_of self.old).more_faults }
         ensures strays { (state_of self.new).strays
-            ≡ strays_after (told_files (state_of self.old)) name.now (state_of self.old).strays }
+            ≡ strays_after (known_files (state_of self.old)) name.now (state_of self.old).strays }
         ensures exact { BeginsMemory (state_of self.old) (state_of self.new) name.now result }
     {
         self.begun = false;
@@ -150,7 +150,7 @@ impl<'a> Library for MemLibrary<'a> {
             result buf.new }
         ensures end { SaysEnd (Some (state_of self.old).rest) result }
         ensures begun { (state_of self.new).begun ≡ (state_of self.old).begun }
-        ensures files { told_files (state_of self.new) ≡ told_files (state_of self.old) }
+        ensures files { known_files (state_of self.new) ≡ known_files (state_of self.old) }
         ensures cause { HasCause (state_of self.old).more_faults (state_of self.new).more_faults
             result }
         ensures open_faults { (state_of self.new).open_faults ≡ (state_of self.old).open_faults }
@@ -167,17 +167,17 @@ impl<'a> Library for MemLibrary<'a> {
     }
 
     fn log(&mut self, name: &str) -> Result<MemLog<'a>, Failed>
-        ensures opened { IfOk result (λ log. IsFreshLog (told_files (state_of self.old)) name.now
+        ensures opened { IfOk result (λ log. IsFreshLog (known_files (state_of self.old)) name.now
             (bytes_left (reader_of log)) (bytes_taken (reader_of log))
             (reader_of log).faults (reader_of log).ended) }
         ensures left { Some (state_of self.new).rest ≡ Some (state_of self.old).rest }
         ensures begun { (state_of self.new).begun ≡ (state_of self.old).begun }
-        ensures files { told_files (state_of self.new) ≡ told_files (state_of self.old) }
+        ensures files { known_files (state_of self.new) ≡ known_files (state_of self.old) }
         ensures cause { HasCause (state_of self.old).open_faults (state_of self.new).open_faults
             result }
         ensures more_faults { (state_of self.new).more_faults ≡ (state_of self.old).more_faults }
         ensures strays { (state_of self.new).strays
-            ≡ strays_after (told_files (state_of self.old)) name.now (state_of self.old).strays }
+            ≡ strays_after (known_files (state_of self.old)) name.now (state_of self.old).strays }
         ensures exact { OpensMemory reader_of (state_of self.old) (state_of self.new)
             name.now result }
     {

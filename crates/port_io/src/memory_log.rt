@@ -51,7 +51,7 @@ impl Source for MemLog<'_> {
 
     ghost other = { λ _. no_other_side };
 
-    ghost told_alike = { λ _. refl };
+    ghost known_alike = { λ _. refl };
 
     fn read(&mut self, buf: &mut [u8]) -> Result<usize, Failed>
         requires { 0 < length buf.old }

@@ -1,4 +1,4 @@
-//! Files of the system, by their paths. What they hold is not told.
+//! Files of the system, by their paths. What they hold is not known.
 ghost use Rattle.std.specs.Prelude.{◌≡◌, false, None, is_some, refl};
 ghost use Rattle.std.specs.Io.{ReadsAtMost};
 ghost use Rattle.std.specs.Io.KnownBytes.{ReadConsumes};
@@ -43,7 +43,7 @@ impl Source for FileSource {
 
     ghost other = { λ _. no_other_side };
 
-    ghost told_alike = { λ _. refl };
+    ghost known_alike = { λ _. refl };
 
     fn read(&mut self, buf: &mut [u8]) -> Result<usize, Failed> {
         let count = read_some(&mut self.file, buf, &mut self.faults)?;
@@ -103,7 +103,7 @@ impl Library for FileLibrary {
 
     ghost strays = { λ _. 0 };
 
-    ghost untold_strays = { λ _ _. refl };
+    ghost unknown_strays = { λ _ _. refl };
 
     fn begin(&mut self, name: &str) -> Result<(), Failed> {
         self.begun = None;

@@ -1,4 +1,4 @@
-//! The standard output and error of the process. What was written is not told.
+//! The standard output and error of the process. What was written is not known.
 ghost use Rattle.std.specs.Prelude.{◌≡◌, ◌≤◌, length, None, IfOk};
 ghost use Rattle.std.specs.Io.KnownBytes.{WriteAppends};
 ghost use Rattle.port_io.specs.Causes.{HasCause};

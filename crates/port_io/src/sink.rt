@@ -11,10 +11,10 @@ pub trait Sink {
     /// The bytes written so far, or `None` where the sink does not tell.
     ghost written: { Self → Option (List ℕ) };
 
-    /// How many writes have failed. At `2^64 - 1` the count stands still.
+    /// How many writes have failed. At `2^64 - 1` the count stays as it is.
     ghost write_faults: { Self → ℕ };
 
-    /// What stands on the sink's other side, which no write changes.
+    /// What is on the sink's other side, which no write changes.
     ghost other: { Self → OtherSide };
 
     /// Writes the first bytes of `piece`, one at least, and answers how many. After `Failed` none

@@ -17,16 +17,16 @@ pub trait Source {
     /// The bytes that reads have not given yet, or `None` where the source does not tell.
     ghost left: { Self → Option (List ℕ) };
 
-    /// The bytes that reads have given, in order. They are told exactly where those left are.
+    /// The bytes that reads have given, in order. They are known exactly where those left are.
     ghost taken: { Self → Option (List ℕ) };
 
-    /// How many reads have failed. At `2^64 - 1` the count stands still.
+    /// How many reads have failed. At `2^64 - 1` the count stays as it is.
     ghost read_faults: { Self → ℕ };
 
     /// Whether a read has answered `Ok(0)`.
     ghost ended: { Self → Bool };
 
-    /// What stands on the source's other side, which no read changes.
+    /// What is on the source's other side, which no read changes.
     ghost other: { Self → OtherSide };
 
     /// Reads some of the bytes left into the front of `buf`, and answers how many. `Ok(0)` says
@@ -44,6 +44,6 @@ pub trait Source {
         ensures cause { HasCause (read_faults self.old) (read_faults self.new) result }
         ensures other { other self.new ≡ other self.old };
 
-    /// The bytes taken are told exactly where the bytes left are.
-    ghost told_alike: { (s : Self) → is_some (taken s) ≡ is_some (left s) };
+    /// The bytes taken are known exactly where the bytes left are.
+    ghost known_alike: { (s : Self) → is_some (taken s) ≡ is_some (left s) };
 }

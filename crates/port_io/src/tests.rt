@@ -26,7 +26,7 @@ fn file(
 }
 
 #[test]
-fn a_source_gives_a_byte_a_read_and_fails_where_told(rt: HostRuntime) -> Result<(), Fail> {
+fn a_source_gives_a_byte_a_read_and_fails_where_stated(rt: HostRuntime) -> Result<(), Fail> {
     let alloc = rt.alloc();
     let mut source = MemSource::new(b"ab".to_vec(alloc)?, 1, [1].to_vec(alloc)?);
     let mut buf = [0u8; 8];

@@ -10,19 +10,19 @@ module _ (shape : Shape) (image : List ℕ) (rest : ℕ) (count : first_region +
   head : List ℕ
   head = length image ∷ replicate 287 0
 
-  front : List ℕ
-  front = head ++ image
+  prefix : List ℕ
+  prefix = head ++ image
 
   whole : List ℕ
-  whole = front ++ replicate rest 0
+  whole = prefix ++ replicate rest 0
 
   head_long : length head ≡ first_region
   unfolding head
   head_long = omega (arith, length-replicate {A = ℕ} 287 0)
 
-  front_long : length front ≡ first_region + length image
-  unfolding front
-  front_long = length-append head image ∙ ap (λ n. n + length image) head_long
+  prefix_long : length prefix ≡ first_region + length image
+  unfolding prefix
+  prefix_long = length-append head image ∙ ap (λ n. n + length image) head_long
 
   zero_at : (i : ℕ) → 0 < i → i < first_region → get_or head i 0 ≡ 0
   unfolding head
@@ -30,18 +30,18 @@ module _ (shape : Shape) (image : List ℕ) (rest : ℕ) (count : first_region +
   zero_at (suc i) some few = get_or-replicate 287 i 0 0 (omega (arith, few))
 
   whole_are : AreFirstWords shape image whole
-  unfolding whole front head
+  unfolding whole prefix head
   whole_are = record {
-    wide = length-append front (replicate rest 0) ∙ (ap (λ n. length front + n) (length-replicate {A = ℕ} rest 0) ∙ (ap (λ n. n + rest) front_long ∙ count));
+    wide = length-append prefix (replicate rest 0) ∙ (ap (λ n. length prefix + n) (length-replicate {A = ℕ} rest 0) ∙ (ap (λ n. n + rest) prefix_long ∙ count));
     size = refl;
-    zeros = λ i some few. get_or_append_left front (replicate rest 0) 0 i (omega (arith, few, front_long)) ∙ (get_or_append_left head image 0 i (omega (arith, few, head_long)) ∙ zero_at i some few);
-    image_is = λ i low. get_or_append_left front (replicate rest 0) 0 (first_region + i) (omega (arith, low, front_long))
-        ∙ (ap (λ n. get_or front (n + i) 0) (sym head_long) ∙ get_or-append-add head image i 0);
+    zeros = λ i some few. get_or_append_left prefix (replicate rest 0) 0 i (omega (arith, few, prefix_long)) ∙ (get_or_append_left head image 0 i (omega (arith, few, head_long)) ∙ zero_at i some few);
+    image_is = λ i low. get_or_append_left prefix (replicate rest 0) 0 (first_region + i) (omega (arith, low, prefix_long))
+        ∙ (ap (λ n. get_or prefix (n + i) 0) (sym head_long) ∙ get_or-append-add head image i 0);
   }
 
 pub first_are : (shape : Shape) (image : List ℕ) (rest : ℕ) (ws : List ℕ) → ws ≡ (((length image ∷ []) ++ replicate 287 0) ++ image) ++ replicate rest 0
     → first_region + length image + rest ≡ word_count shape.regions shape.room → AreFirstWords shape image ws
-unfolding whole front head
+unfolding whole prefix head
 first_are shape image rest ws is count = subst (AreFirstWords shape image) (sym is) (whole_are shape image rest count)
 
 -- an image is like itself

@@ -75,7 +75,7 @@ module _ (region version r : ℕ) (image : List ℕ) (v : View) (rests : LoaderR
       let two : Did = did.Stored epoch_word (version + 1) in
       let joined : ((v.loader.steps ++ stores) ++ one ∷ []) ++ two ∷ [] ≡ v.loader.steps ++ (stores ++ (one ∷ two ∷ [])) =
       append_assoc (v.loader.steps ++ stores) (one ∷ []) (two ∷ []) ∙ append_assoc v.loader.steps stores (one ∷ two ∷ []) in
-      let told : v.loader.steps ++ (stores ++ (one ∷ two ∷ [])) ≡ v.loader.steps ++ publishing region image v =
+      let known : v.loader.steps ++ (stores ++ (one ∷ two ∷ [])) ≡ v.loader.steps ++ publishing region image v =
       λ i. v.loader.steps ++ (stores ++ (did.Stored published_word (packed (sym rests.version_is i + 1) region all) ∷ did.Stored epoch_word (sym rests.version_is i + 1) ∷ [])) in
       follows ∙ (ap G (publishes ∙ ap F before) ∙ (λ i. record v {
         loader = record v.loader {
@@ -87,7 +87,7 @@ module _ (region version r : ℕ) (image : List ℕ) (v : View) (rests : LoaderR
           region = named i;
           retired = set (set v.loader.retired v.loader.region (Some v.loader.epoch)) (named i) None;
           cleared = set v.loader.cleared (named i) (replicate v.shape.lanes false);
-          steps = (joined ∙ told) i;
+          steps = (joined ∙ known) i;
         };
       }))
 

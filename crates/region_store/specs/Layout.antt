@@ -1,5 +1,5 @@
 -- Where the words of a store lie. The published word, the epoch and the pins are 128 bytes apart, so that no
--- two share a cache line; the regions stand behind them, one after another.
+-- two share a cache line; the regions are behind them, one after another.
 use Rattle.std.specs.Prelude.{ℕ, ◌+◌, ◌-◌, ◌*◌, ◌/◌, ◌%◌}
 
 abbrev pub published_word : ℕ

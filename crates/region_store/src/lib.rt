@@ -1,7 +1,7 @@
 //! A store of versions: a loader writes images into regions that are used again, while lanes read the published
 //! image without waiting, each under a pin.
 //!
-//! It stands on the kit's `atomic_table`, whose words are the published word, the epoch, the pins and the regions,
+//! It builds on the kit's `atomic_table`, whose words are the published word, the epoch, the pins and the regions,
 //! on `epoch_core`, a state of whose machine the table shows, and on `image_words` and `bench_model`, which say what
 //! an image is. A version is read through `Words`.
 //!

@@ -10,9 +10,9 @@ use Rattle.sig_text.specs.Comments.{BeginsLineComment, BeginsBlockComment, Opens
 use Rattle.sig_text.specs.Tokens.{BeginsNoBlank}
 use Rattle.sig_text.proofs.StringLaws.{comment_longest}
 
--- a byte of a front is that of the text, if it is not 0
-pub read_of_front : (n : ℕ) (text : List ℕ) (i b : ℕ) → 0 < b → get_or (take n text) i 0 ≡ b → get_or text i 0 ≡ b
-read_of_front n text i b some read =
+-- a byte of a prefix is that of the text, if it is not 0
+pub read_of_prefix : (n : ℕ) (text : List ℕ) (i b : ℕ) → 0 < b → get_or (take n text) i 0 ≡ b → get_or text i 0 ≡ b
+read_of_prefix n text i b some read =
     elim (cases_lt i n) [
       | inl inside ↦ sym (get_or-take n text i 0 inside) ∙ read
       | inr past ↦ absurd (omega (arith, read, get_or_past (take n text) i 0 (omega (arith, length-take n text))))
@@ -22,9 +22,9 @@ read_of_front n text i b some read =
 pub first_of_rest : (text : List ℕ) (at : ℕ) → get_or (drop at text) 0 0 ≡ get_or text at 0
 first_of_rest text at = get_or-drop at text 0 0 ∙ ap (λ i. get_or text i 0) (add-zero at)
 
--- the text from a place to another as a front of the text from there
-pub slice_front : (text : List ℕ) (at n : ℕ) → slice_range text at (at + n) ≡ take n (drop at text)
-slice_front text at n =
+-- the text from a place to another as a prefix of the text from there
+pub slice_prefix : (text : List ℕ) (at n : ℕ) → slice_range text at (at + n) ≡ take n (drop at text)
+slice_prefix text at n =
     let size : at + n - at ≡ n = omega arith in
     ap (λ k. take k (drop at text)) size
 
@@ -47,25 +47,25 @@ blank_form text comments from to blank =
     let ordered = blank.ordered in
     let within : n ≤ length rest = omega (arith, blank.within, length-drop from text) in
     let size = length-take-le n rest within in
-    elim blank.spelled [
-      | space spelled ↦
-          let low = space_is_low spelled.0 spelled.2 in
-          let first : get_or rest 0 0 ≡ spelled.0 = read_of_front n rest 0 spelled.0 low.1 (ap (λ s. get_or s 0 0) spelled.1) in
-          white (omega (arith, low.0)) (omega (arith, ap length spelled.1))
-      | byte_order_mark head spelled ↦
-          mark (read_of_front n rest 0 239 (omega arith) (ap (λ s. get_or s 0 0) spelled)) (omega (arith, ap length spelled))
-      | line_comment asked spelled ended ↦
-          line (read_of_front n rest 0 47 (omega arith) spelled.first_slash) (read_of_front n rest 1 47 (omega arith) spelled.second_slash)
+    elim blank.lexeme [
+      | space lexeme ↦
+          let low = space_is_low lexeme.0 lexeme.2 in
+          let first : get_or rest 0 0 ≡ lexeme.0 = read_of_prefix n rest 0 lexeme.0 low.1 (ap (λ s. get_or s 0 0) lexeme.1) in
+          white (omega (arith, low.0)) (omega (arith, ap length lexeme.1))
+      | byte_order_mark head lexeme ↦
+          mark (read_of_prefix n rest 0 239 (omega arith) (ap (λ s. get_or s 0 0) lexeme)) (omega (arith, ap length lexeme))
+      | line_comment asked lexeme ended ↦
+          line (read_of_prefix n rest 0 47 (omega arith) lexeme.first_slash) (read_of_prefix n rest 1 47 (omega arith) lexeme.second_slash)
           (record {
             within = within;
-            spelled = spelled;
+            lexeme = lexeme;
             ended = λ inside.
                 let place : from + n ≡ to = omega arith in
                 get_or-drop from text n 0 ∙ ap (λ i. get_or text i 0) place ∙ ended (omega (arith, length-drop from text));
           })
-      | block_comment asked spelled ↦
-          block (read_of_front n rest 0 47 (omega arith) spelled.opening_slash) (read_of_front n rest 1 42 (omega arith) spelled.opening_star)
-          (record { within = within; spelled = spelled })
+      | block_comment asked lexeme ↦
+          block (read_of_prefix n rest 0 47 (omega arith) lexeme.opening_slash) (read_of_prefix n rest 1 42 (omega arith) lexeme.opening_star)
+          (record { within = within; lexeme = lexeme })
     ]
 
 -- one line comment begins at one place
@@ -74,7 +74,7 @@ line_longest rest n m comment other =
     elim (cases_lt n m) [
       | inl longer ↦
           let inside : n < length (take m rest) = omega (arith, length-take-le m rest other.within) in
-          absurd (other.spelled.one_line n 0 inside (get_or-take m rest n 0 longer ∙ comment.ended (omega (arith, other.within))))
+          absurd (other.lexeme.one_line n 0 inside (get_or-take m rest n 0 longer ∙ comment.ended (omega (arith, other.within))))
       | inr fits ↦ fits
     ]
 
@@ -109,7 +109,7 @@ form_unique rest n m first second =
             | mark b' three ↦ omega arith
             | line b' c' other ↦ omega arith
             | block b' c' other ↦
-                omega (arith, comment_longest rest n m comment.within comment.spelled other.within other.spelled, comment_longest rest m n other.within other.spelled comment.within comment.spelled)
+                omega (arith, comment_longest rest n m comment.within comment.lexeme other.within other.lexeme, comment_longest rest m n other.within other.lexeme comment.within comment.lexeme)
           ]
     ]
 
@@ -133,12 +133,12 @@ no_blank_from_byte text comments at end high no_mark no_slash blank =
 
 -- a blank at the front of the text from a place is a blank of the text
 pub space_at : (text : List ℕ) (comments : Bool) (at n : ℕ) → at < length text → 0 < n → BeginsSpace (drop at text) (at == 0) n → IsBlank text comments at (at + n)
-space_at text comments at n inside some front =
-    let slice = slice_front text at n in
+space_at text comments at n inside some prefix =
+    let slice = slice_prefix text at n in
     record {
       ordered = omega arith;
-      within = omega (arith, front.within, length-drop at text);
-      spelled = elim (front.spelled some) [
+      within = omega (arith, prefix.within, length-drop at text);
+      lexeme = elim (prefix.lexeme some) [
         | inl one ↦ space (subst IsSpace (sym slice) one)
         | inr bom ↦ byte_order_mark (eqb-true at 0 bom.0) (subst IsByteOrderMark (sym slice) bom.1)
       ];
@@ -146,22 +146,22 @@ space_at text comments at n inside some front =
 
 -- neither white space nor a comment begins there
 pub no_blank_at : (text : List ℕ) (comments : Bool) (at : ℕ) → (comments ≡ true → (OpensLineComment (drop at text) → ⊥) × (OpensBlockComment (drop at text) → ⊥)) → BeginsSpace (drop at text) (at == 0) 0 → BeginsNoBlank text comments at
-no_blank_at text comments at absent front =
+no_blank_at text comments at absent prefix =
     let rest = drop at text in
     record {
       no_blank = λ end blank.
-          elim blank.spelled [
-            | space spelled ↦ front.no_space refl (end - at) spelled
-            | byte_order_mark head spelled ↦ front.no_mark refl (eq-eqb at 0 head) (end - at) spelled
-            | line_comment asked spelled ended ↦
+          elim blank.lexeme [
+            | space lexeme ↦ prefix.no_space refl (end - at) lexeme
+            | byte_order_mark head lexeme ↦ prefix.no_mark refl (eq-eqb at 0 head) (end - at) lexeme
+            | line_comment asked lexeme ended ↦
                 (absent asked).0 (record {
-                  first_slash = read_of_front (end - at) rest 0 47 (omega arith) spelled.first_slash;
-                  second_slash = read_of_front (end - at) rest 1 47 (omega arith) spelled.second_slash;
+                  first_slash = read_of_prefix (end - at) rest 0 47 (omega arith) lexeme.first_slash;
+                  second_slash = read_of_prefix (end - at) rest 1 47 (omega arith) lexeme.second_slash;
                 })
-            | block_comment asked spelled ↦
+            | block_comment asked lexeme ↦
                 (absent asked).1 (record {
-                  opening_slash = read_of_front (end - at) rest 0 47 (omega arith) spelled.opening_slash;
-                  opening_star = read_of_front (end - at) rest 1 42 (omega arith) spelled.opening_star;
+                  opening_slash = read_of_prefix (end - at) rest 0 47 (omega arith) lexeme.opening_slash;
+                  opening_star = read_of_prefix (end - at) rest 1 42 (omega arith) lexeme.opening_star;
                 })
           ];
       no_open_comment = λ asked unclosed.

@@ -7,10 +7,10 @@ use Rattle.std.proofs.lemmas.Bool.{cases_eq, cases_lt, cases_Bool, and_parts, ne
 use Rattle.std.proofs.lemmas.List.{append-nil, get_or_past}
 use Rattle.std.proofs.lemmas.Str.{IsUtf8-append, IsUtf8-nil, IsUtf8-encode, IsUtf8-between, IsCharBoundary-before_ascii, IsCharBoundary-after_ascii, encode_ascii, inside_one}
 use Rattle.sig_text.specs.Content.{IsStringOf, unescaped, between_quotes, encoded, content_of}
-use Rattle.sig_text.specs.Spelling.{IsString, IsSpelling}
+use Rattle.sig_text.specs.Lexemes.{IsString, IsLexeme}
 use Rattle.sig_text.specs.declared.token.Token.{Token}
 use Rattle.sig_text.proofs.StringLaws.{string_end}
-use Rattle.sig_text.proofs.BlankLaws.{first_of_rest, read_of_front}
+use Rattle.sig_text.proofs.BlankLaws.{first_of_rest, read_of_prefix}
 
 -- bytes without a backslash stand for themselves
 unescaped_plain : (xs rest : List ℕ) → ((k : ℕ) → k < length xs → get_or xs k 0 ≡ 92 → ⊥) → unescaped (xs ++ rest) ≡ xs ++ unescaped rest
@@ -62,27 +62,27 @@ IsUtf8-latin (b ∷ bytes) small =
       | inr plain ↦ rw plain (IsUtf8-append (encode b) _ (IsUtf8-encode b (low_scalar b (omega (arith, small 0)))) rest)
     ]
 
--- where the quotes of a string token stand
+-- where the quotes of a string token are
 pub record Quotes (text : List ℕ) (token : Token) : Type 0 where
   pub apart : token.at + 1 ≤ token.end - 1
   pub within : token.end ≤ length text
   pub opening : get_or text token.at 0 ≡ 34
   pub closing : get_or text (token.end - 1) 0 ≡ 34
 
--- a string token stands between two quotes
+-- a string token is between two quotes
 pub quotes_of : (text : List ℕ) (token : Token) → IsStringOf text token → Quotes text token
 quotes_of text token is =
     let rest = drop token.at text in
     let n = token.end - token.at in
-    let ordered = is.stands.ordered in
-    let inside = is.stands.within in
-    let string : IsString (take n rest) = subst (λ kind. IsSpelling kind (slice_range text token.at token.end)) is.kind is.stands.spelled in
+    let ordered = is.is_there.ordered in
+    let inside = is.is_there.within in
+    let string : IsString (take n rest) = subst (λ kind. IsLexeme kind (slice_range text token.at token.end)) is.kind is.is_there.lexeme in
     let end = string_end rest n (omega (arith, length-drop token.at text)) string in
     let last : token.at + (n - 1) ≡ token.end - 1 = omega (arith, end.0) in
     record {
       apart = omega (arith, end.0);
       within = inside;
-      opening = sym (first_of_rest text token.at) ∙ read_of_front n rest 0 34 (omega arith) string.opening;
+      opening = sym (first_of_rest text token.at) ∙ read_of_prefix n rest 0 34 (omega arith) string.opening;
       closing = ap (λ k. get_or text k 0) (sym last) ∙ sym (get_or-drop token.at text (n - 1) 0) ∙ end.1.closing;
     }
 

@@ -8,8 +8,8 @@ use Rattle.std.proofs.lemmas.Slice.Eq.{bytes_eq-Decides}
 use Rattle.std.proofs.lemmas.Bool.{cases_lt, cases_eq, cases_Bool, both_ways}
 use Rattle.std.proofs.lemmas.List.{take-take}
 use Rattle.sig_text.specs.Bytes.{is_space, is_in_line, is_word_start, is_word_byte, is_sign}
-use Rattle.sig_text.specs.Spelling.{ClosesString, IsNumber, IsSpelling}
-use Rattle.sig_text.specs.Fronts.{BeginsToken, BeginsNoToken, IsLongestFront}
+use Rattle.sig_text.specs.Lexemes.{ClosesString, IsNumber, IsLexeme}
+use Rattle.sig_text.specs.Prefixes.{BeginsToken, BeginsNoToken, IsLongestPrefix}
 use Rattle.sig_text.specs.Blank.{IsSpace, IsByteOrderMark, IsLineComment, IsBlockComment, ClosesComment, line_comment, block_comment, IsBlank}
 use Rattle.sig_text.specs.Comments.{BeginsLineComment, BeginsBlockComment, OpensLineComment, OpensBlockComment, BeginsComment, BeginsSpace}
 use Rattle.sig_text.specs.Tokens.{IsToken, AreTokens, IsTokens, IsOpenComment, BeginsNoBlank, BeginsFault, place_of, IsLexFault}
@@ -20,10 +20,10 @@ use Rattle.sig_text.specs.declared.token.TokenKind.TheVariants.{Word, Number, St
 use Rattle.sig_text.specs.declared.token.Token.{Token}
 use Rattle.sig_text.specs.declared.fault.LexFault.{LexFault}
 use Rattle.sig_text.specs.declared.fault.LexFault.TheVariants.{OpenString, OpenComment, Byte}
-use Rattle.sig_text.proofs.StringLaws.{string_front, string_endless, comment_front, comment_end, comment_endless, line_comment_front}
+use Rattle.sig_text.proofs.StringLaws.{string_prefix, string_endless, comment_prefix, comment_end, comment_endless, line_comment_prefix}
 use Rattle.sig_text.proofs.LongestLaws.{longest_number}
 use Rattle.sig_text.proofs.ScanLaws.{word_token, string_token, no_string_token, number_token, sign_token, no_token}
-use Rattle.sig_text.proofs.BlankLaws.{read_of_front, first_of_rest, slice_front, space_is_low, space_at, no_blank_at}
+use Rattle.sig_text.proofs.BlankLaws.{read_of_prefix, first_of_rest, slice_prefix, space_is_low, space_at, no_blank_at}
 use Rattle.sig_text.proofs.ReadingLaws.{inside_from_read, push_blank, push_token}
 
 -- of the first n places a first one has the property, or none has
@@ -75,7 +75,7 @@ comment_closes text place =
       | inr early ↦ inr (λ closes. absurd (omega (arith, closes.inside)))
     ]
 
--- a front of the text is its token, or no front is one
+-- a prefix of the text is its token, or no prefix is one
 abbrev TokenOrNone : List ℕ → Type 0
 TokenOrNone text = ((kind : TokenKind) × (n : ℕ) × BeginsToken text kind n) ⊎ BeginsNoToken text
 
@@ -83,7 +83,7 @@ TokenOrNone text = ((kind : TokenKind) × (n : ℕ) × BeginsToken text kind n) 
 string_or_none : (text : List ℕ) → get_or text 0 0 ≡ 34 → TokenOrNone text
 string_or_none text quote =
     elim (first_place (ClosesString text) (string_closes text) (length text)) [
-      | inl found ↦ inl (Str, found.0 + 1, string_token text (found.0 + 1) (omega (arith, found.1)) (string_front text found.0 found.1 quote found.3 found.2) quote)
+      | inl found ↦ inl (Str, found.0 + 1, string_token text (found.0 + 1) (omega (arith, found.1)) (string_prefix text found.0 found.1 quote found.3 found.2) quote)
       | inr none ↦ inr (no_string_token text (string_endless text none) quote)
     ]
 
@@ -95,7 +95,7 @@ plain_or_none text there no_word no_quote =
       | inl some ↦ inl (Number, number.0, number_token text number.0 no_word no_quote some number.1)
       | inr nothing ↦
           let is_zero : number.0 ≡ 0 = omega arith in
-          let no_number = subst (IsLongestFront IsNumber text) is_zero number.1 in
+          let no_number = subst (IsLongestPrefix IsNumber text) is_zero number.1 in
           elim (cases_Bool (is_sign (get_or text 0 0))) [
             | inl sign ↦ inl (Sign, 1, sign_token text there no_word no_quote no_number sign)
             | inr no_sign ↦ inr (no_token text no_word no_quote no_number no_sign)
@@ -117,7 +117,7 @@ token_or_none text there =
 block_comment_or_open : (text : List ℕ) → OpensBlockComment text → (comment : Comment) × BeginsComment text comment
 block_comment_or_open text opened =
     elim (first_place (ClosesComment text) (comment_closes text) (length text - 1)) [
-      | inl found ↦ (Closed (found.0 + 2), inr (comment_front text found.0 (omega (arith, found.1)) opened found.3 found.2))
+      | inl found ↦ (Closed (found.0 + 2), inr (comment_prefix text found.0 (omega (arith, found.1)) opened found.3 found.2))
       | inr none ↦ (Open, record { opened = opened; endless = comment_endless text (λ k inside. none k (omega arith)) })
     ]
 
@@ -129,7 +129,7 @@ comment_of text =
           elim (cases_eq (get_or text 1 0) 47) [
             | inl second ↦
                 let long = inside_from_read text 1 47 (omega arith) second in
-                (Closed (prefix_len is_in_line text), inl (line_comment_front text (prefix_len is_in_line text) refl (omega arith) (record { first_slash = slash; second_slash = second })))
+                (Closed (prefix_len is_in_line text), inl (line_comment_prefix text (prefix_len is_in_line text) refl (omega arith) (record { first_slash = slash; second_slash = second })))
             | inr no_slash ↦
                 elim (cases_eq (get_or text 1 0) 42) [
                   | inl star ↦ block_comment_or_open text (record { opening_slash = slash; opening_star = star })
@@ -141,39 +141,39 @@ comment_of text =
 
 -- a byte of white space is the first of the text
 space_first : (text : List ℕ) (m : ℕ) → IsSpace (take m text) → is_space (get_or text 0 0) ≡ true
-space_first text m spelled =
-    ap is_space (read_of_front m text 0 spelled.0 (space_is_low spelled.0 spelled.2).1 (ap (λ s. get_or s 0 0) spelled.1)) ∙ spelled.2
+space_first text m lexeme =
+    ap is_space (read_of_prefix m text 0 lexeme.0 (space_is_low lexeme.0 lexeme.2).1 (ap (λ s. get_or s 0 0) lexeme.1)) ∙ lexeme.2
 
 -- a byte order mark is the first three bytes of the text
 mark_first : (text : List ℕ) (m : ℕ) → IsByteOrderMark (take m text) → IsByteOrderMark (take 3 text)
-mark_first text m spelled =
-    let long : 3 ≤ m = omega (arith, ap length spelled, length-take m text) in
-    sym (take-take 3 m text long) ∙ ap (take 3) spelled
+mark_first text m lexeme =
+    let long : 3 ≤ m = omega (arith, ap length lexeme, length-take m text) in
+    sym (take-take 3 m text long) ∙ ap (take 3) lexeme
 
 -- the first byte is white space
-space_front : (text : List ℕ) (is_head : Bool) → is_space (get_or text 0 0) ≡ true → BeginsSpace text is_head 1
-space_front [] is_head pass = absurd (both_ways (is_space 0) refl pass)
-space_front (b ∷ rest) is_head pass = record {
+space_prefix : (text : List ℕ) (is_head : Bool) → is_space (get_or text 0 0) ≡ true → BeginsSpace text is_head 1
+space_prefix [] is_head pass = absurd (both_ways (is_space 0) refl pass)
+space_prefix (b ∷ rest) is_head pass = record {
   within = omega arith;
-  spelled = λ some. inl (b, refl, pass);
+  lexeme = λ some. inl (b, refl, pass);
   no_space = λ none. absurd (omega arith);
   no_mark = λ none. absurd (omega arith);
 }
 
 -- the first bytes are neither white space nor, at the head, a byte order mark
-no_space_front : (text : List ℕ) (is_head : Bool) → is_space (get_or text 0 0) ≡ false → (IsTrue is_head → IsByteOrderMark (take 3 text) → ⊥) → BeginsSpace text is_head 0
-no_space_front text is_head no_space no_mark = record {
+no_space_prefix : (text : List ℕ) (is_head : Bool) → is_space (get_or text 0 0) ≡ false → (IsTrue is_head → IsByteOrderMark (take 3 text) → ⊥) → BeginsSpace text is_head 0
+no_space_prefix text is_head no_space no_mark = record {
   within = omega arith;
-  spelled = λ some. absurd (omega arith);
-  no_space = λ none m spelled. both_ways _ no_space (space_first text m spelled);
-  no_mark = λ none head m spelled. no_mark head (mark_first text m spelled);
+  lexeme = λ some. absurd (omega arith);
+  no_space = λ none m lexeme. both_ways _ no_space (space_first text m lexeme);
+  no_mark = λ none head m lexeme. no_mark head (mark_first text m lexeme);
 }
 
 -- a byte order mark at the head
-mark_front : (text : List ℕ) (is_head : Bool) → IsTrue is_head → IsByteOrderMark (take 3 text) → BeginsSpace text is_head 3
-mark_front text is_head head mark = record {
+mark_prefix : (text : List ℕ) (is_head : Bool) → IsTrue is_head → IsByteOrderMark (take 3 text) → BeginsSpace text is_head 3
+mark_prefix text is_head head mark = record {
   within = omega (arith, ap length mark, length-take 3 text);
-  spelled = λ some. inr (head, mark);
+  lexeme = λ some. inr (head, mark);
   no_space = λ none. absurd (omega arith);
   no_mark = λ none. absurd (omega arith);
 }
@@ -184,15 +184,15 @@ space_of text is_head =
     let mark_test = bytes_eq (take 3 text) (0xEF ∷ 0xBB ∷ 0xBF ∷ []) in
     let decides = bytes_eq-Decides (take 3 text) (0xEF ∷ 0xBB ∷ 0xBF ∷ []) in
     elim (cases_Bool (is_space (get_or text 0 0))) [
-      | inl pass ↦ (1, space_front text is_head pass)
+      | inl pass ↦ (1, space_prefix text is_head pass)
       | inr no_space ↦
           elim (cases_Bool is_head) [
             | inl head ↦
                 elim (cases_Bool mark_test) [
-                  | inl mark ↦ (3, mark_front text is_head head (decides.0 mark))
-                  | inr no_mark ↦ (0, no_space_front text is_head no_space (λ _ mark. both_ways _ no_mark (decides.1 mark)))
+                  | inl mark ↦ (3, mark_prefix text is_head head (decides.0 mark))
+                  | inr no_mark ↦ (0, no_space_prefix text is_head no_space (λ _ mark. both_ways _ no_mark (decides.1 mark)))
                 ]
-            | inr no_head ↦ (0, no_space_front text is_head no_space (λ head mark. both_ways _ no_head head))
+            | inr no_head ↦ (0, no_space_prefix text is_head no_space (λ head mark. both_ways _ no_head head))
           ]
     ]
 
@@ -216,17 +216,17 @@ space_or_none text comments at inside absent =
 -- a line comment at the front of the text from a place is a blank of the text
 line_at : (text : List ℕ) (comments : Bool) (at n : ℕ) → IsTrue comments → at < length text → BeginsLineComment (drop at text) n → IsBlank text comments at (at + n)
 line_at text comments at n asked inside begins = record {
-  ordered = omega (arith, begins.spelled.long, length-take-le n (drop at text) begins.within);
+  ordered = omega (arith, begins.lexeme.long, length-take-le n (drop at text) begins.within);
   within = omega (arith, begins.within, length-drop at text);
-  spelled = line_comment asked (subst IsLineComment (sym (slice_front text at n)) begins.spelled) (λ more. sym (get_or-drop at text n 0) ∙ begins.ended (omega (arith, length-drop at text)));
+  lexeme = line_comment asked (subst IsLineComment (sym (slice_prefix text at n)) begins.lexeme) (λ more. sym (get_or-drop at text n 0) ∙ begins.ended (omega (arith, length-drop at text)));
 }
 
 -- so is a block comment
 block_at : (text : List ℕ) (comments : Bool) (at n : ℕ) → IsTrue comments → at < length text → BeginsBlockComment (drop at text) n → IsBlank text comments at (at + n)
 block_at text comments at n asked inside begins = record {
-  ordered = omega (arith, (comment_end (drop at text) n begins.within begins.spelled).0);
+  ordered = omega (arith, (comment_end (drop at text) n begins.within begins.lexeme).0);
   within = omega (arith, begins.within, length-drop at text);
-  spelled = block_comment asked (subst IsBlockComment (sym (slice_front text at n)) begins.spelled);
+  lexeme = block_comment asked (subst IsBlockComment (sym (slice_prefix text at n)) begins.lexeme);
 }
 
 -- a comment at the front of the text from a place, or none
@@ -250,37 +250,37 @@ blank_or_none text comments at inside =
       | inr unasked ↦ space_or_none text comments at inside (λ asked. absurd (both_ways _ unasked asked))
     ]
 
--- what stands at a place: a blank, a token or a fault
-data Front (text : List ℕ) (comments : Bool) (at : ℕ) : Type 0 where
-  blank : (end : ℕ) → IsBlank text comments at end → Front text comments at
-  token : (found : Token) → found.at ≡ at → IsToken text found → Front text comments at
-  fault : (found : LexFault) → place_of found ≡ at → BeginsFault text comments found → Front text comments at
+-- what is at a place: a blank, a token or a fault
+data Prefix (text : List ℕ) (comments : Bool) (at : ℕ) : Type 0 where
+  blank : (end : ℕ) → IsBlank text comments at end → Prefix text comments at
+  token : (found : Token) → found.at ≡ at → IsToken text found → Prefix text comments at
+  fault : (found : LexFault) → place_of found ≡ at → BeginsFault text comments found → Prefix text comments at
 
 -- a token at the front of the text from a place is a token of the text
 token_at : (text : List ℕ) (kind : TokenKind) (at n : ℕ) → at < length text → BeginsToken (drop at text) kind n → IsToken text (record { kind = kind; at = at; end = at + n })
 token_at text kind at n inside begins = record {
   ordered = omega (arith, begins.some);
   within = omega (arith, begins.within, length-drop at text);
-  spelled = subst (IsSpelling kind) (sym (slice_front text at n)) begins.spelled;
-  longest = λ other end longer within spelled. absurd (omega (arith, begins.longest other (end - at) (omega (arith, length-drop at text)) spelled));
+  lexeme = subst (IsLexeme kind) (sym (slice_prefix text at n)) begins.lexeme;
+  longest = λ other end longer within lexeme. absurd (omega (arith, begins.longest other (end - at) (omega (arith, length-drop at text)) lexeme));
 }
 
--- without a blank and a token, a string without an end stands there, or a stray byte
-fault_at : (text : List ℕ) (comments : Bool) (at : ℕ) → at < length text → BeginsNoBlank text comments at → BeginsNoToken (drop at text) → Front text comments at
+-- without a blank and a token, a string without an end is there, or a stray byte
+fault_at : (text : List ℕ) (comments : Bool) (at : ℕ) → at < length text → BeginsNoBlank text comments at → BeginsNoToken (drop at text) → Prefix text comments at
 fault_at text comments at inside blankless tokenless =
     elim (cases_eq (get_or text at 0) 34) [
       | inl quote ↦ fault (OpenString at) refl (record { opening = quote; endless = λ end within string. tokenless Str (end - at) (omega (arith, length-drop at text)) string })
       | inr other ↦ fault (Byte at) refl (record {
         within = inside;
-        no_token = λ kind end within spelled. tokenless kind (end - at) (omega (arith, length-drop at text)) spelled;
+        no_token = λ kind end within lexeme. tokenless kind (end - at) (omega (arith, length-drop at text)) lexeme;
         no_blank = blankless;
         no_open_string = λ string. other string.opening;
       })
     ]
 
--- at each place before the end of the text something stands
-front_of : (text : List ℕ) (comments : Bool) (at : ℕ) → at < length text → Front text comments at
-front_of text comments at inside =
+-- at each place before the end of the text something is
+prefix_of : (text : List ℕ) (comments : Bool) (at : ℕ) → at < length text → Prefix text comments at
+prefix_of text comments at inside =
     elim (blank_or_none text comments at inside) [
       | some_blank end is ↦ blank end is
       | open_comment asked is ↦ fault (OpenComment at) refl (asked, is)
@@ -303,7 +303,7 @@ read_on zero text comments at within few tokens are =
 read_on (suc left) text comments at within few tokens are =
     elim (cases_lt at (length text)) [
       | inl inside ↦
-          elim (front_of text comments at inside) [
+          elim (prefix_of text comments at inside) [
             | blank end is ↦ read_on left text comments end is.within (omega (arith, is.ordered)) tokens (push_blank text comments 0 tokens at end are is)
             | token found place is ↦
                 read_on left text comments found.end is.within (omega (arith, is.ordered, place)) (tokens ++ found ∷ [])

@@ -1,4 +1,4 @@
-pub mod FrontLaws
+pub mod PrefixLaws
 pub mod NumberLaws
 pub mod StringLaws
 pub mod ScanLaws

@@ -8,13 +8,13 @@ use Rattle.sig_text.specs.declared.blank.Comment.TheVariants.{Absent, Closed, Op
 -- the first n bytes are a line comment, up to a line feed or the end
 pub record BeginsLineComment (text : List ℕ) (n : ℕ) : Type 0 where
   pub within : n ≤ length text
-  pub spelled : IsLineComment (take n text)
+  pub lexeme : IsLineComment (take n text)
   pub ended : n < length text → slice_index text n ≡ line_feed
 
 -- the first n bytes are a comment between `/*` and `*/`
 pub record BeginsBlockComment (text : List ℕ) (n : ℕ) : Type 0 where
   pub within : n ≤ length text
-  pub spelled : IsBlockComment (take n text)
+  pub lexeme : IsBlockComment (take n text)
 
 -- a `/*` begins the text
 pub record OpensBlockComment (text : List ℕ) : Type 0 where
@@ -38,9 +38,9 @@ BeginsComment text (Closed len) = BeginsLineComment text len ⊎ BeginsBlockComm
 BeginsComment text Open = BeginsOpenComment text
 
 -- The first n bytes are white space, or, at the head of the whole text, the byte order mark; n is 0 where no
--- front is.
+-- prefix is.
 pub record BeginsSpace (text : List ℕ) (is_head : Bool) (n : ℕ) : Type 0 where
   pub within : n ≤ length text
-  pub spelled : 0 < n → IsSpace (take n text) ⊎ (IsTrue is_head × IsByteOrderMark (take n text))
+  pub lexeme : 0 < n → IsSpace (take n text) ⊎ (IsTrue is_head × IsByteOrderMark (take n text))
   pub no_space : n ≡ 0 → (m : ℕ) → ¬ IsSpace (take m text)
   pub no_mark : n ≡ 0 → IsTrue is_head → (m : ℕ) → ¬ IsByteOrderMark (take m text)

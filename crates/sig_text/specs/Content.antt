@@ -9,9 +9,9 @@ use Rattle.sig_text.specs.declared.token.Token.{Token}
 -- the token is a string of the text
 pub record IsStringOf (text : List ℕ) (token : Token) : Type 0 where
   pub kind : token.kind ≡ Str
-  pub stands : IsToken text token
+  pub is_there : IsToken text token
 
--- a backslash stands at this place, directly before a quote
+-- a backslash is at this place, directly before a quote
 abbrev pub is_escape : List ℕ → ℕ → Bool
 is_escape content place = slice_index content place == backslash && (slice_index content (place + 1) == quote)
 

@@ -1,6 +1,6 @@
 pub mod Bytes
-pub mod Spelling
-pub mod Fronts
+pub mod Lexemes
+pub mod Prefixes
 pub mod Blank
 pub mod Comments
 pub mod Tokens

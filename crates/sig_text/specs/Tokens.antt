@@ -1,35 +1,35 @@
 -- The tokens of a text, and its first lexical fault.
 use Rattle.std.specs.Prelude.{◌≡◌, ℕ, ◌+◌, ◌<◌, ◌≤◌, ◌⊎◌, Bool, List, [], ◌∷◌, length, slice_index, slice_range, IsTrue}
 use Rattle.sig_text.specs.Bytes.{quote, star, slash}
-use Rattle.sig_text.specs.Spelling.{IsSpelling, IsString}
+use Rattle.sig_text.specs.Lexemes.{IsLexeme, IsString}
 use Rattle.sig_text.specs.Blank.{IsBlank, IsBlockComment}
 use Rattle.sig_text.specs.declared.token.TokenKind.{TokenKind}
 use Rattle.sig_text.specs.declared.token.Token.{Token}
 use Rattle.sig_text.specs.declared.fault.LexFault.{LexFault}
 use Rattle.sig_text.specs.declared.fault.LexFault.TheVariants.{OpenString, OpenComment, Byte, Memory}
 
--- the token stands in the text, and no longer spelling of a token, of whatever kind, begins at its place
+-- the token is in the text, and no longer lexeme of a token, of whatever kind, begins at its place
 pub record IsToken (text : List ℕ) (token : Token) : Type 0 where
   pub ordered : token.at < token.end
   pub within : token.end ≤ length text
-  pub spelled : IsSpelling token.kind (slice_range text token.at token.end)
+  pub lexeme : IsLexeme token.kind (slice_range text token.at token.end)
   pub longest : (kind : TokenKind) (end : ℕ) → token.end < end → end ≤ length text →
-      ¬ IsSpelling kind (slice_range text token.at end)
+      ¬ IsLexeme kind (slice_range text token.at end)
 
 -- no token begins at this place
 abbrev pub BeginsNoTokenAt : List ℕ → ℕ → Type 0
-BeginsNoTokenAt text at = (kind : TokenKind) (end : ℕ) → end ≤ length text → ¬ IsSpelling kind (slice_range text at end)
+BeginsNoTokenAt text at = (kind : TokenKind) (end : ℕ) → end ≤ length text → ¬ IsLexeme kind (slice_range text at end)
 
 -- the text from one place to another is blanks that end at these places, one behind the other
 abbrev pub AreBlanks : List ℕ → Bool → ℕ → List ℕ → ℕ → Type 0
 AreBlanks text comments from [] to = from ≡ to
 AreBlanks text comments from (end ∷ ends) to = IsBlank text comments from end × AreBlanks text comments end ends to
 
--- only blanks stand from one place to another
+-- only blanks are from one place to another
 abbrev pub IsGap : List ℕ → Bool → ℕ → ℕ → Type 0
 IsGap text comments from to = (ends : List ℕ) × AreBlanks text comments from ends to
 
--- from one place to another the tokens stand in order, with only blanks between, before and after them
+-- from one place to another the tokens are in order, with only blanks between, before and after them
 abbrev pub AreTokens : List ℕ → Bool → ℕ → List Token → ℕ → Type 0
 AreTokens text comments from [] to = IsGap text comments from to
 AreTokens text comments from (token ∷ tokens) to =

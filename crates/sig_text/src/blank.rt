@@ -1,4 +1,4 @@
-//! What stands between tokens: white space, the byte order mark and comments.
+//! What is between tokens: white space, the byte order mark and comments.
 ghost use Rattle.std.specs.Prelude.{◌≡◌, ℕ, ◌<◌, ◌≤◌, length, slice_index, take, IfOk, IfErr, IfSome, IfNone, IsTrue};
 ghost use Rattle.std.specs.List.{prefix_len};
 ghost use Rattle.sig_text.specs.Bytes.{is_in_line};
@@ -11,7 +11,7 @@ use crate::fault::LexFault;
 
 /// The comment at the front of a text.
 pub(crate) enum Comment {
-    /// Neither `//` nor `/*` stands there.
+    /// Neither `//` nor `/*` is there.
     Absent,
     /// A comment with its end, of this length.
     Closed(usize),
@@ -43,7 +43,7 @@ fn block_comment_len(text: &[u8]) -> Option<usize>
 }
 
 /// Reads the comment at the front: `//` up to a line feed or the end, or `/*` up to the next `*/`.
-fn comment_at_front(text: &[u8]) -> Comment
+fn comment_at_start(text: &[u8]) -> Comment
     ensures { BeginsComment text.now result }
 {
     match text {
@@ -76,7 +76,7 @@ pub(crate) fn blank_end(bytes: &[u8], at: usize, comments: bool) -> Result<Optio
 {
     let rest = &bytes[at..];
     if comments {
-        match comment_at_front(rest) {
+        match comment_at_start(rest) {
             Comment::Closed(len) => return Ok(Some(at + len)),
             Comment::Open => return Err(LexFault::OpenComment { at }),
             Comment::Absent => {}

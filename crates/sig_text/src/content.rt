@@ -19,7 +19,7 @@ fn push_byte(text: &mut Vec<u8>, byte: u8, utf8: bool) -> Result<(), AllocError>
     Ok(())
 }
 
-/// Whether a backslash stands at this place, directly before a quote.
+/// Whether a backslash is at this place, directly before a quote.
 fn is_escape(content: &[u8], place: usize) -> bool
     requires { place < length content.now }
     ensures { result ≡ is_escape content.now place }

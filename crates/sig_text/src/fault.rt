@@ -5,7 +5,7 @@ ghost use Rattle.sig_text.specs.declared.fault.LexFault.TheVariants.{Memory};
 use std::alloc::AllocFailed;
 use thiserror::Error;
 
-/// A lexical fault, with the place of the byte at which it begins, or want of memory.
+/// A lexical fault, with the place of the byte at which it begins, or out of memory.
 #[derive(Clone, Copy, Debug, PartialEq, Eq, Error)]
 pub enum LexFault {
     /// A `"` without an end.

@@ -4,7 +4,7 @@ ghost use Rattle.sig_text.specs.Tokens.{IsToken, BeginsNoTokenAt, IsTokens, IsLe
 
 use crate::blank::blank_end;
 use crate::fault::LexFault;
-use crate::scan::token_at_front;
+use crate::scan::token_at_start;
 use crate::token::Token;
 use std::alloc::Global;
 
@@ -14,7 +14,7 @@ fn token_at(bytes: &[u8], at: usize) -> Option<Token>
     ensures found { IfSome result (λ token. (token.at ≡ at) × IsToken bytes.now token) }
     ensures none { IfNone result (BeginsNoTokenAt bytes.now at) }
 {
-    let (kind, len) = token_at_front(&bytes[at..])?;
+    let (kind, len) = token_at_start(&bytes[at..])?;
     Some(Token {
         kind,
         at,

@@ -1,7 +1,7 @@
 //! The tokens of DBC and LDF text, and the content of their strings.
 //!
 //! A text is words, numbers, strings and signs, with white space between them and, where the format has them,
-//! comments. The readers of whole DBC and LDF text read the list that `tokens` gives, over `token_forms`. It stands on
+//! comments. The readers of whole DBC and LDF text read the list that `tokens` gives, over `token_forms`. It builds on
 //! std and `thiserror`.
 //!
 //! The theorem: `tokens` answers the list of longest tokens that the text is made of, or the first place at which

@@ -2,8 +2,8 @@
 ghost use Rattle.std.specs.Prelude.{◌≡◌, ◌≤◌, length};
 ghost use Rattle.std.specs.List.{prefix_len};
 ghost use Rattle.std.specs.Char.{is_ascii_digit, is_ascii_hexdigit};
-ghost use Rattle.sig_text.specs.Fronts.{IsLongestFront};
-ghost use Rattle.sig_text.specs.Spelling.{IsHexadecimal, IsFraction, IsPower, IsExponent, IsMantissa, IsDecimal, IsNumber};
+ghost use Rattle.sig_text.specs.Prefixes.{IsLongestPrefix};
+ghost use Rattle.sig_text.specs.Lexemes.{IsHexadecimal, IsFraction, IsPower, IsExponent, IsMantissa, IsDecimal, IsNumber};
 
 /// The run of decimal digits.
 fn digits_len(text: &[u8]) -> usize
@@ -23,7 +23,7 @@ fn hexadecimal_digits_len(text: &[u8]) -> usize
 
 /// `0x` or `0X` and hexadecimal digits.
 fn hexadecimal_len(text: &[u8]) -> usize
-    ensures { IsLongestFront IsHexadecimal text.now result }
+    ensures { IsLongestPrefix IsHexadecimal text.now result }
 {
     match text {
         [b'0', b'x' | b'X', digits @ ..] => match hexadecimal_digits_len(digits) {
@@ -36,7 +36,7 @@ fn hexadecimal_len(text: &[u8]) -> usize
 
 /// A point and digits, possibly none.
 fn fraction_len(text: &[u8]) -> usize
-    ensures { IsLongestFront IsFraction text.now result }
+    ensures { IsLongestPrefix IsFraction text.now result }
 {
     match text {
         [b'.', digits @ ..] => 1 + digits_len(digits),
@@ -46,7 +46,7 @@ fn fraction_len(text: &[u8]) -> usize
 
 /// An optional `+` or `-`, and digits.
 fn power_len(text: &[u8]) -> usize
-    ensures { IsLongestFront IsPower text.now result }
+    ensures { IsLongestPrefix IsPower text.now result }
 {
     match text {
         [b'+' | b'-', digits @ ..] => match digits_len(digits) {
@@ -59,7 +59,7 @@ fn power_len(text: &[u8]) -> usize
 
 /// `e` or `E`, and the power of ten.
 fn exponent_len(text: &[u8]) -> usize
-    ensures { IsLongestFront IsExponent text.now result }
+    ensures { IsLongestPrefix IsExponent text.now result }
 {
     match text {
         [b'e' | b'E', power @ ..] => match power_len(power) {
@@ -72,7 +72,7 @@ fn exponent_len(text: &[u8]) -> usize
 
 /// Digits, optionally a point and digits, possibly none; or a point and digits.
 fn mantissa_len(text: &[u8]) -> usize
-    ensures { IsLongestFront IsMantissa text.now result }
+    ensures { IsLongestPrefix IsMantissa text.now result }
 {
     let whole = digits_len(text);
     let fraction = fraction_len(&text[whole..]);
@@ -86,7 +86,7 @@ fn mantissa_len(text: &[u8]) -> usize
 
 /// A mantissa, and an exponent where a whole one follows.
 fn decimal_len(text: &[u8]) -> usize
-    ensures { IsLongestFront IsDecimal text.now result }
+    ensures { IsLongestPrefix IsDecimal text.now result }
 {
     match mantissa_len(text) {
         0 => 0,
@@ -96,7 +96,7 @@ fn decimal_len(text: &[u8]) -> usize
 
 /// A hexadecimal or a decimal number, whichever is longer: `0x1F` also begins with the decimal `0`.
 pub(crate) fn number_len(text: &[u8]) -> usize
-    ensures { IsLongestFront IsNumber text.now result }
+    ensures { IsLongestPrefix IsNumber text.now result }
 {
     hexadecimal_len(text).max(decimal_len(text))
 }

@@ -2,7 +2,7 @@
 ghost use Rattle.std.specs.Prelude.{◌≡◌, ◌<◌, ◌≤◌, length, IfSome, IfNone};
 ghost use Rattle.std.specs.List.{prefix_len};
 ghost use Rattle.sig_text.specs.Bytes.{is_word_byte};
-ghost use Rattle.sig_text.specs.Fronts.{BeginsToken, BeginsNoToken};
+ghost use Rattle.sig_text.specs.Prefixes.{BeginsToken, BeginsNoToken};
 
 use crate::bytes::{is_sign, is_word_byte, is_word_start};
 use crate::number::number_len;
@@ -18,7 +18,7 @@ fn word_len(text: &[u8]) -> usize
 }
 
 /// The kind and the length of the token at the front, the longest that there is.
-pub(crate) fn token_at_front(text: &[u8]) -> Option<(TokenKind, usize)>
+pub(crate) fn token_at_start(text: &[u8]) -> Option<(TokenKind, usize)>
     requires { 0 < length text.now }
     ensures found { IfSome result (λ token. BeginsToken text.now token.0 token.1) }
     ensures none { IfNone result (BeginsNoToken text.now) }

@@ -75,7 +75,7 @@ const ALIKE: [(&[u8], &str); 78] = [
     (b"00x1", "Number 0-2, Word 2-4"),
     (b"1x2", "Number 0-1, Word 1-3"),
     (b"0x1.5", "Number 0-3, Number 3-5"),
-    // Strings: a quote behind a backslash is content, whatever stands before the backslash.
+    // Strings: a quote behind a backslash is content, whatever is before the backslash.
     (b"\"\"", "Str 0-2"),
     (b"\"rpm\"", "Str 0-5"),
     (b"\"a\nb\"", "Str 0-5"),

@@ -1,4 +1,4 @@
-//! A token: its kind and where it stands.
+//! A token: its kind and where it is.
 
 /// The kind of a token.
 #[derive(Clone, Copy, Debug, PartialEq, Eq)]

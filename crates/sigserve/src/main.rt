@@ -1,7 +1,7 @@
 //! The program `sigserve`: it hands the words of its command line, the files of the system and the standard
 //! streams to `bench_server::run_tool`, and ends with the status's code.
 //!
-//! It stands on `bench_server` for all that is proved, and on `port_io` for the real files and streams. It
+//! It builds on `bench_server` for all that is proved, and on `port_io` for the real files and streams. It
 //! has no theorem of its own: it is shown by its stored run.
 #![tactic(auto)]
 
@@ -21,7 +21,7 @@ fn words(rt: HostRuntime) -> Result<Vec<String>, AllocError> {
     }
 }
 
-/// Appends the line of want of memory, as far as the error output takes it, and answers that status.
+/// Appends the line of out of memory, as far as the error output takes it, and answers that status.
 fn out_of_memory(err: &mut ErrSink) -> Status {
     match write_piece(err, b"memory\n") {
         Ok(()) | Err(_) => Status::Memory,

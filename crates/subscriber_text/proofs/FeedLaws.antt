@@ -1,4 +1,4 @@
--- No line feed stands in what lines are made of.
+-- No line feed is in what lines are made of.
 use Rattle.std.proofs.Common.{◌≡◌, ℕ, zero, suc, ◌+◌, ◌/◌, ◌%◌, ◌^◌, ◌<◌, true, false, List, [], ◌∷◌, ◌++◌, map, refl, ◌∙◌, arith, inl, inr, ℤ, pos, negsuc}
 use Rattle.std.specs.Prelude.{◌==◌, ◌||◌, not, nat_lt, flat_map, unsigned_abs}
 use Rattle.std.specs.List.{list_all}

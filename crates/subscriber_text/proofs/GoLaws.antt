@@ -73,7 +73,7 @@ go_nowhere last (l ∷ ls) e = elim (cases_Bool (is_go last l)) [
 
 -- ---- line by line
 
--- no line feed stands in the first line
+-- no line feed is in the first line
 head_is_plain : List (List ℕ) → Bool
 head_is_plain [] = true
 head_is_plain (line ∷ lines) = no_feed line
@@ -122,7 +122,7 @@ unfolding fed_lines
 fed_alone x [] p = rw (plain_part x [] p).0 refl
 fed_alone x (y ∷ ys) p = let parts = plain_part x (y ∷ ys) p in rw (parts.0, fed_alone y ys parts.1) refl
 
--- the first line of a text as it stands there
+-- the first line of a text as it is there
 pub record Fed (text line after : List ℕ) : Type 0 where
   pub fed : List ℕ
   pub parted : fed_lines text ≡ fed ∷ fed_lines after
@@ -209,7 +209,7 @@ read_line last bytes rest line after count test r f e other shorter = record {
   bound = omega (arith, r.bound, shorter);
 }
 
--- that line stands behind the lines read
+-- that line is behind the lines read
 pub found_go : (bytes rest line after : List ℕ) (ended last : Bool) (count : ℕ) (test : Bool) → last ≡ counts_last bytes ended → ReadTo last bytes rest count → Fed rest line after
     → test ≡ ((nat_lt (length line) (length rest) || last) && is_go_alone (line_words line)) → test ≡ true → Go (length bytes - length rest) ≡ wants_before_go bytes ended
 unfolding heard

@@ -1,4 +1,4 @@
--- Plain bytes stand as they are inside quotation marks.
+-- Plain bytes are as they are inside quotation marks.
 use Rattle.std.proofs.Common.{◌≡◌, ℕ, suc, ◌+◌, ◌-◌, ◌<◌, ◌≤◌, true, List, [], ◌∷◌, ◌++◌, length, get_or, take, drop, refl, sym, ap, ◌∙◌, append_assoc, arith, inl, inr, length-drop, length-take, get_or-take, get_or-drop}
 use Rattle.std.specs.Prelude.{◌==◌, nat_lt}
 use Rattle.std.proofs.lemmas.Bool.{cases_Bool}
@@ -35,7 +35,7 @@ escaped-plain (x ∷ xs) plain =
 escaped-append : (xs ys : List ℕ) → escaped (xs ++ ys) ≡ escaped xs ++ escaped ys
 escaped-append xs ys = flat_map-append quoted_byte xs ys
 
--- what stands between two places, and is plain, stands as it is
+-- what is between two places, and is plain, is as it is
 pub escaped-more : (xs : List ℕ) (a k : ℕ) → a + k ≤ length xs → ((j : ℕ) → a ≤ j → j < a + k → is_plain (get_or xs j 0) ≡ true)
     → escaped (take (a + k) xs) ≡ escaped (take a xs) ++ take k (drop a xs)
 escaped-more xs a k within plain =

@@ -63,28 +63,28 @@ fed_before (b ∷ bs) before line after e = elim (cases_Bool (b == 10)) [
         rw (sym first) (ap (λ xs. (10 ∷ []) ∷ xs) (later ls others))
 
 -- the bytes up to the end of these lines
-take_front : (a b : List ℕ) → take (length a) (a ++ b) ≡ a
-take_front [] b = refl
-take_front (x ∷ a) b = ap (λ xs. x ∷ xs) (take_front a b)
+take_prefix : (a b : List ℕ) → take (length a) (a ++ b) ≡ a
+take_prefix [] b = refl
+take_prefix (x ∷ a) b = ap (λ xs. x ∷ xs) (take_prefix a b)
 
-record Front (bytes : List ℕ) (before : List (List ℕ)) : Type 0 where
+record Prefix (bytes : List ℕ) (before : List (List ℕ)) : Type 0 where
   within : length (bytes_of before) ≤ length bytes
   taken : take (length (bytes_of before)) bytes ≡ bytes_of before
 
-front : (bytes : List ℕ) (before : List (List ℕ)) (line : List ℕ) (after : List (List ℕ)) → fed_lines bytes ≡ before ++ line ∷ after → Front bytes before
-front bytes before line after e =
+prefix : (bytes : List ℕ) (before : List (List ℕ)) (line : List ℕ) (after : List (List ℕ)) → fed_lines bytes ≡ before ++ line ∷ after → Prefix bytes before
+prefix bytes before line after e =
     let parted : bytes ≡ bytes_of before ++ bytes_of (line ∷ after) =
     sym (fed_bytes bytes) ∙ ap bytes_of e ∙ flat_map-append (λ l. l) before (line ∷ after) in
     record {
       within = omega (arith, ap length parted, length-append (bytes_of before) (bytes_of (line ∷ after)));
-      taken = ap (take (length (bytes_of before))) parted ∙ take_front (bytes_of before) (bytes_of (line ∷ after));
+      taken = ap (take (length (bytes_of before))) parted ∙ take_prefix (bytes_of before) (bytes_of (line ∷ after));
     }
 
 -- ---- what is heard and what is asked
 
 -- the lines before `GO` are those of the first bytes
 Known : List ℕ → Heard → Type 0
-Known bytes (Before before) = Front bytes before × (fed_lines (bytes_of before) ≡ before)
+Known bytes (Before before) = Prefix bytes before × (fed_lines (bytes_of before) ≡ before)
 Known bytes Awaited = Unit {0}
 Known bytes Ended = Unit {0}
 Known bytes (Limit n) = Unit {0}
@@ -100,7 +100,7 @@ known_of : (bytes : List ℕ) (ended : Bool) (o : Option (List (List ℕ))) → 
 unfolding Known
 known_of bytes ended (Some before) found =
     let first = go_first (counts_last bytes ended) (fed_lines bytes) before found in
-    (front bytes before first.0 first.1 first.2, fed_before bytes before first.0 first.1 first.2)
+    (prefix bytes before first.0 first.1 first.2, fed_before bytes before first.0 first.1 first.2)
 known_of bytes ended None none = known_without bytes ended
 
 known : (bytes : List ℕ) (ended : Bool) → Known bytes (heard bytes ended)

@@ -1,4 +1,4 @@
--- Each line of a text of items stands in the part of a wanted bus.
+-- Each line of a text of items is in the part of a wanted bus.
 use Rattle.std.proofs.Common.{◌≡◌, ℕ, Bool, true, false, true≢false, List, [], ◌∷◌, ◌++◌, length, refl, sym, ap, ◌∙◌, subst}
 use Rattle.std.proofs.Common.{append_assoc, inl, inr, Option, None}
 use Rattle.std.specs.Prelude.{◌||◌, ◌&&◌, nat_lt, flat_map, codes}
@@ -66,7 +66,7 @@ unwanted w (item.Reading r) none = elim (cases_Bool (wants_reading w r)) [
   | inr fails ↦ rw fails refl
 ]
 
--- a line of a signal stands in the parts in which the line before it stands
+-- a line of a signal is in the parts in which the line before it is
 signal-wanted : (w : WantList) (before : ℕ → Bool) (bus : ℕ) (line rest : List ℕ) → no_feed line ≡ true
     → bytes_eq (first_word (words_of line)) (codes "s") ≡ true → wants_bus w bus ≡ true → before bus ≡ true
     → AreOfWanted w before (fed_lines rest) → AreOfWanted w before (fed_lines ((line ++ 10 ∷ []) ++ rest))
@@ -74,7 +74,7 @@ unfolding AreOfWanted
 signal-wanted w before bus line rest plain signal wanted here after =
     rw (append_assoc line (10 ∷ []) rest, fed_lines-line line rest plain, without_feed-line line plain, signal) ((bus, wanted, here), after)
 
--- another line stands in the part of the bus that it names
+-- another line is in the part of the bus that it names
 head-wanted : (w : WantList) (before : ℕ → Bool) (bus : ℕ) (line rest : List ℕ) → no_feed line ≡ true
     → bytes_eq (first_word (words_of line)) (codes "s") ≡ false → bytes_eq (second_word (words_of line)) (bus_name w bus) ≡ true
     → wants_bus w bus ≡ true → ((now : ℕ → Bool) → now bus ≡ true → AreOfWanted w now (fed_lines rest))

@@ -24,7 +24,7 @@ is_go_alone (word ∷ more ∷ words) = false
 abbrev pub has_feed : List ℕ → Bool
 has_feed line = list_any (λ b. b == 10) line
 
--- Whether a line is that one: it stands with its line feed, or the last line counts without. A carriage return at its
+-- Whether a line is that one: it is with its line feed, or the last line counts without. A carriage return at its
 -- end is dropped.
 abbrev pub is_go : Bool → List ℕ → Bool
 is_go last line = (has_feed line || last) && is_go_alone (line_words (without_feed line))
@@ -43,7 +43,7 @@ counts_last bytes ended = ended && nat_lt (length bytes) before_go_limit
 abbrev pub bytes_of : List (List ℕ) → List ℕ
 bytes_of lines = flat_map (λ line. line) lines
 
--- What the first bytes of an input say, 65,536 at most: these lines stand before `GO`; more bytes are to come;
+-- What the first bytes of an input say, 65,536 at most: these lines are before `GO`; more bytes are to come;
 -- the input has ended without that line; or as many bytes as may come were sent without it, the last of them in
 -- the line of this number, from 1.
 pub data Heard : Type 0 where

@@ -34,7 +34,7 @@ behind_format (line ∷ lines) = if names_format line then lines else line ∷ l
 abbrev pub are_wants : List (List ℕ) → List (List ℕ) → Bool
 are_wants names lines = list_all (is_want names) (behind_format lines)
 
--- what a line is refused for that stands behind these lines: where there are none it may name the format
+-- what a line is refused for that is behind these lines: where there are none it may name the format
 abbrev pub fault_behind : List (List ℕ) → List (List ℕ) → List ℕ → Option WantsFault
 fault_behind names before line =
     if is_empty before && names_format line then None

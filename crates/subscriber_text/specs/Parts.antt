@@ -50,14 +50,14 @@ bus_lines bus before (line ∷ lines) =
 abbrev pub part_of : List ℕ → List ℕ → List ℕ
 part_of text bus = bus_lines bus false (fed_lines text)
 
--- the lines, behind a line that stands in the parts of these buses, each stand in the part of a wanted bus
+-- the lines, behind a line that is in the parts of these buses, each are in the part of a wanted bus
 unfoldable pub AreOfWanted : WantList → (ℕ → Bool) → List (List ℕ) → Type 0
 AreOfWanted w before [] = Unit {0}
 AreOfWanted w before (line ∷ lines) =
     ((bus : ℕ) × (wants_bus w bus ≡ true) × (belongs (bus_name w bus) (before bus) line ≡ true))
     × AreOfWanted w (λ bus. belongs (bus_name w bus) (before bus) line) lines
 
--- each line of a text stands in the part of a wanted bus
+-- each line of a text is in the part of a wanted bus
 abbrev pub IsOfWantedBuses : WantList → List ℕ → Type 0
 IsOfWantedBuses w text = AreOfWanted w (λ bus. false) (fed_lines text)
 
@@ -72,7 +72,7 @@ bus_of (item.Reading reading) = reading.bus
 bus_of (item.Gap bus missed) = bus
 bus_of (item.End bus number) = bus
 
--- no line feed stands in a text
+-- no line feed is in a text
 abbrev pub no_feed : List ℕ → Bool
 no_feed bytes = list_all (λ b. not (b == 10)) bytes
 
@@ -86,7 +86,7 @@ pub record AreBusNames (names : List (List ℕ)) : Type 0 where
   pub differ : (a b : ℕ) → a < length names → b < length names
       → slice_index_or names a [] ≡ slice_index_or names b [] → a ≡ b
 
--- no line feed stands in the names of a record's message and signals
+-- no line feed is in the names of a record's message and signals
 abbrev pub name_is_plain : Option (List ℕ) → Bool
 name_is_plain None = true
 name_is_plain (Some name) = no_feed name

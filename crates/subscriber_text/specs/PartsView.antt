@@ -1,4 +1,4 @@
--- Where a record stands, and a signal's value in parts that are lent, as the code has them.
+-- Where a record is, and a signal's value in parts that are lent, as the code has them.
 use Rattle.std.specs.Prelude.{ℕ, List, [], ◌∷◌}
 use Rattle.std.specs.Fmt.{decimal}
 use Rattle.bench_model.specs.declared.reading.SignalValue.{SignalValue}

@@ -1,4 +1,4 @@
--- Which bytes stand as they are inside quotation marks.
+-- Which bytes are as they are inside quotation marks.
 use Rattle.std.specs.Prelude.{ℕ, ◌==◌, ◌||◌, Bool, not, nat_lt, List, flat_map}
 use Rattle.subscriber_text.specs.ItemText.{quoted_byte}
 

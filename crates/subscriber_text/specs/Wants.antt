@@ -1,4 +1,4 @@
--- What a subscriber wants of the buses, and in which format it is told.
+-- What a subscriber wants of the buses, and in which format it is answered.
 use Rattle.std.specs.Prelude.{ℕ, ◌==◌, ◌&&◌, ◌||◌, Bool, true, false, List, [], ◌∷◌, length, nat_lt, Option, Some, None}
 use Rattle.std.specs.List.{list_any}
 use Rattle.std.specs.Option.{option_eq}

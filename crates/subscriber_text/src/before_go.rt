@@ -20,7 +20,7 @@ pub enum Asking {
     Open,
     /// The input ended without that line.
     Gone,
-    /// As many bytes as may come were sent without it; the last of them stands in this line, from 1.
+    /// As many bytes as may come were sent without it; the last of them is in this line, from 1.
     Long { n: u64 },
 }
 

@@ -19,7 +19,7 @@ pub(crate) fn append_hex(out: &mut Vec<u8>, bytes: &[u8]) -> Result<(), AllocErr
     Ok(())
 }
 
-/// Whether a byte stands as it is inside quotation marks.
+/// Whether a byte is as it is inside quotation marks.
 fn is_plain(byte: u8) -> bool
     ensures { result ≡ is_plain byte }
 {
@@ -41,7 +41,7 @@ fn append_escape(out: &mut Vec<u8>, byte: u8) -> Result<(), AllocError>
     Ok(())
 }
 
-/// Appends the bytes of a text as they stand inside quotation marks, a run of plain bytes at a time.
+/// Appends the bytes of a text as they are inside quotation marks, a run of plain bytes at a time.
 fn append_escaped(out: &mut Vec<u8>, text: &[u8]) -> Result<(), AllocError>
     ensures ok { OnOk result (out.new.items ≡ out.old.items ++ escaped text.now) }
     ensures grows { Extends out.old.items out.new.items }

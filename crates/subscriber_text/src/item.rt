@@ -62,7 +62,7 @@ fn append_number(out: &mut Vec<u8>, word: &[u8], bus: &[u8], number: u64) -> Res
     append_line(out, word, &[bus, digits.format(number).as_bytes()])
 }
 
-/// Appends what is wanted of an item. After an error some of it may stand in the buffer.
+/// Appends what is wanted of an item. After an error some of it may be in the buffer.
 fn append_part(out: &mut Vec<u8>, wants: &Wants, item: &Item) -> Result<(), AllocError>
     ensures ok { OnOk result (out.new.items ≡ out.old.items ++ item_text wants.now item.now) }
     ensures grows { Extends out.old.items out.new.items }

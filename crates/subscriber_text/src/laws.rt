@@ -20,7 +20,7 @@ ghost use Rattle.subscriber_text.specs.Parts.{IsOfWantedBuses, IsCutText, IsBehi
 use crate::{Asking, WantsFault};
 
 /// In a text of items of several buses the part of a bus is the text of its items: where the names of the buses
-/// are different words, and no line feed stands in the names of messages and signals.
+/// are different words, and no line feed is in the names of messages and signals.
 pub fn the_part_of_a_bus_is_the_text_of_its_items()
     ensures { (wants : WantList) (items : List Item) (bus : ℕ) → AreBusNames wants.names
         → bus < length wants.names
@@ -37,8 +37,8 @@ pub fn the_parts_of_a_record_are_its_text()
         ≡ item_text wants (Items.Reading (message_record place message signals)) }
 {}
 
-/// Each line of a text of items stands in the part of a wanted bus: where the names of the buses are words, and
-/// no line feed stands in the names of messages and signals.
+/// Each line of a text of items is in the part of a wanted bus: where the names of the buses are words, and
+/// no line feed is in the names of messages and signals.
 pub fn each_line_is_of_a_wanted_bus()
     ensures { (wants : WantList) (items : List Item) → AreBusNames wants.names
         → list_all is_plainly_named items ≡ true

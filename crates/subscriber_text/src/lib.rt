@@ -1,7 +1,7 @@
 //! What a subscriber wants, and the text that it is sent.
 //!
 //! `wants_before_go` finds where a subscriber's wants end, `Wants::read` reads them, and `append` and `print`
-//! write the items that they cover, as the tool prints them and a server sends them. It stands on `bench_model`
+//! write the items that they cover, as the tool prints them and a server sends them. It builds on `bench_model`
 //! for the items, on `exact_scale`, `byte_forms` and `text_words` for numbers, lines and words, and on `port_io`
 //! for the sink.
 //!

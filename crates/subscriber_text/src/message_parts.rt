@@ -15,7 +15,7 @@ use bench_model::Reading;
 use itoa::Buffer;
 use std::alloc::AllocError;
 
-/// Where a record stands: its bus by the place of that, its number on the bus, and the version and the stamp of its
+/// Where a record is: its bus by the place of that, its number on the bus, and the version and the stamp of its
 /// line.
 #[derive(Clone, Copy, Debug, PartialEq, Eq)]
 pub struct RecordPlace {
@@ -36,7 +36,7 @@ pub enum WantedSignals {
 }
 
 impl RecordPlace {
-    /// Where this record stands.
+    /// Where this record is.
     pub(crate) fn of(reading: &Reading) -> RecordPlace
         ensures { result ≡ place_of reading.now }
     {
@@ -99,7 +99,7 @@ fn wanted_signals(wants: &Wants, bus: u32, name: &[u8]) -> WantedSignals
 
 /// Appends the first line of the record of a message of this name, where it is wanted, and answers which of its
 /// signals are. Their lines are to be appended by `append_wanted_signal`, in their order. After an error some of the
-/// line may stand in the buffer.
+/// line may be in the buffer.
 pub fn append_message(
     wants: &Wants,
     place: RecordPlace,
@@ -130,7 +130,7 @@ fn is_covered(wants: &Wants, bus: u32, message: &[u8], wanted: WantedSignals, na
 }
 
 /// Appends the line of a signal of a record of this message, where it is among those that are wanted of it. After an
-/// error some of the line may stand in the buffer.
+/// error some of the line may be in the buffer.
 pub fn append_wanted_signal(
     wants: &Wants,
     bus: u32,

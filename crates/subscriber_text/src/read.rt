@@ -172,7 +172,7 @@ fn push_want(
     Ok(())
 }
 
-/// The wants of the lines of a text that stands behind so many lines.
+/// The wants of the lines of a text that is behind so many lines.
 fn read_lines(
     alloc: Global,
     names: &[Text],

@@ -6,8 +6,8 @@ ghost use Rattle.subscriber_text.specs.WantView.{name_view, name_of, name_cmp};
 use std::alloc::{AllocError, Global};
 use std::cmp::Ordering;
 
-/// A want: of a bus, of the messages of a name, or of a signal of them. Wants stand in order by their bus,
-/// then their message, then their signal; no name stands before every name.
+/// A want: of a bus, of the messages of a name, or of a signal of them. Wants are in order by their bus,
+/// then their message, then their signal; no name is before every name.
 #[derive(Debug, PartialEq, Eq, PartialOrd, Ord, Drop)]
 pub(crate) struct NamedWant {
     /// The bus's place.
@@ -30,7 +30,7 @@ impl NamedWant {
         })
     }
 
-    /// How the want stands to those of this bus, and of this message or none.
+    /// How the want compares with those of this bus, and of this message or none.
     pub(crate) fn message_order(&self, bus: usize, message: Option<&[u8]>) -> Ordering
         ensures { result ≡ message_cmp (want_view self.now) (bus, name_of message.entry) }
     {
@@ -40,7 +40,7 @@ impl NamedWant {
         }
     }
 
-    /// How the want stands to that of this bus, of this message or none, and of this signal or none.
+    /// How the want compares with that of this bus, of this message or none, and of this signal or none.
     pub(crate) fn order(
         &self,
         bus: usize,
@@ -70,7 +70,7 @@ fn name_copy(alloc: Global, name: &Option<Vec<u8>>) -> Result<Option<Vec<u8>>, A
     }
 }
 
-/// How a name, or none, stands to another.
+/// How a name, or none, compares with another.
 fn name_order(name: &Option<Vec<u8>>, other: Option<&[u8]>) -> Ordering
     ensures { result ≡ name_cmp (name_view name.now) (name_of other.entry) }
 {

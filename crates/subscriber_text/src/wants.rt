@@ -8,7 +8,7 @@ use bench_model::Text;
 use std::alloc::{AllocError, Global};
 use std::marker::Model;
 
-/// The wants of a subscriber, and the format in which it is told. Contracts see the names of the buses and
+/// The wants of a subscriber, and the format in which it is answered. Contracts see the names of the buses and
 /// the wants in the order of their lines.
 #[derive(Debug, Drop)]
 pub struct Wants {

@@ -1,4 +1,4 @@
--- The first line of a text stands before its first line feed, without a carriage return at its end.
+-- The first line of a text is before its first line feed, without a carriage return at its end.
 use Rattle.std.proofs.Common.{◌≡◌, ℕ, suc, ◌+◌, ◌-◌, ◌<◌, ◌≤◌, Bool, true, false, cond, List, [], ◌∷◌, ◌++◌, length, get_or, take, drop, refl, sym, ap, ◌∙◌, arith, inl, inr}
 use Rattle.std.specs.Prelude.{◌==◌, ◌&&◌, take_while}
 use Rattle.std.specs.List.{list_all, prefix_len}
@@ -36,7 +36,7 @@ kept_line (b ∷ c ∷ bs) other =
     let other' : 0 < length (c ∷ bs) → get_or (c ∷ bs) (length (c ∷ bs) - 1) 0 ≡ 13 → ⊥ = λ some last. other (omega arith) (rw step last) in
     rw (and_false (b == 13)) (ap (λ ys. b ∷ ys) (kept_line (c ∷ bs) other'))
 
--- a run holds no line feed, and what stands behind it begins with one
+-- a run holds no line feed, and what is behind it begins with one
 feedless : List ℕ → Type 0
 feedless xs = list_all (is_in classes.LineByte) xs ≡ true
 
@@ -94,14 +94,14 @@ returns-last (x ∷ y ∷ ys) plain =
     let next = no_feed_first y ys parts.1 in
     rw (next.0, and_false (x == 13)) (ap (λ zs. x ∷ zs) (returns-last (y ∷ ys) parts.1))
 
-front_feedless : (xs : List ℕ) → feedless xs → feedless (without_return xs)
+prefix_feedless : (xs : List ℕ) → feedless xs → feedless (without_return xs)
 unfolding feedless without_return
-front_feedless [] plain = refl
-front_feedless (x ∷ xs) plain =
+prefix_feedless [] plain = refl
+prefix_feedless (x ∷ xs) plain =
     let parts = no_feed_first x xs plain in
     elim (cases_Bool (x == 13 && is_empty xs)) [
       | inl dropped ↦ rw dropped refl
-      | inr kept ↦ rw (kept, parts.0) (front_feedless xs parts.1)
+      | inr kept ↦ rw (kept, parts.0) (prefix_feedless xs parts.1)
     ]
 
 lines-cut : (xs rest : List ℕ) → feedless xs → all_lines (xs ++ 10 ∷ rest) ≡ xs ∷ all_lines rest
@@ -116,7 +116,7 @@ lines-last x (y ∷ ys) plain = let parts = no_feed_first x (y ∷ ys) plain in 
 
 -- a line with its feed, and the lines behind it
 cut_text : (line rest : List ℕ) → feedless line → text_lines (line ++ 10 ∷ rest) ≡ without_return line ∷ text_lines rest
-cut_text line rest plain = ap all_lines (returns-cut line rest plain) ∙ lines-cut (without_return line) (without_returns rest) (front_feedless line plain)
+cut_text line rest plain = ap all_lines (returns-cut line rest plain) ∙ lines-cut (without_return line) (without_returns rest) (prefix_feedless line plain)
 
 -- a line without a feed is the last
 last_text : (line : List ℕ) → feedless line → 0 < length line → text_lines line ≡ line ∷ text_lines []

@@ -1,4 +1,4 @@
--- Behind blanks stands a word, and behind it the others.
+-- Behind blanks is a word, and behind it the others.
 use Rattle.std.proofs.Common.{◌≡◌, ℕ, zero, suc, ◌-◌, ◌<◌, ◌≤◌, true, false, cond, List, [], ◌∷◌, length, get_or, take, drop, refl, sym, ap, ◌∙◌, arith, inl, inr, add-zero}
 use Rattle.std.specs.Prelude.{filter, not}
 use Rattle.std.proofs.lemmas.Bool.{cases_lt}
@@ -31,9 +31,9 @@ words-blanks (suc n) [] within blank = absurd (omega arith)
 words-blanks (suc n) (x ∷ xs) within blank =
     words-blanks n xs (omega arith) (λ k lt. blank (suc k) (omega arith)) ∙ sym (words-blank x xs (blank 0 (omega arith)))
 
--- a byte that is no blank stands in the first part
-onto_append : (x : ℕ) (front : List ℕ) (parts : List (List ℕ)) → IsSome parts → (rest : List (List ℕ)) → parts ≡ front ∷ rest → onto_first x parts ≡ (x ∷ front) ∷ rest
-onto_append x front parts some-part rest e = rw e refl
+-- a byte that is no blank is in the first part
+onto_append : (x : ℕ) (prefix : List ℕ) (parts : List (List ℕ)) → IsSome parts → (rest : List (List ℕ)) → parts ≡ prefix ∷ rest → onto_first x parts ≡ (x ∷ prefix) ∷ rest
+onto_append x prefix parts some-part rest e = rw e refl
 
 -- bytes that are no blanks are a part, up to a blank or the end
 pub parts-run : (n : ℕ) (xs : List ℕ) → n ≤ length xs → ((k : ℕ) → k < n → is_blank (get_or xs k 0) ≡ false) → (n < length xs → is_blank (get_or xs n 0) ≡ true)
@@ -46,7 +46,7 @@ parts-run (suc n) (x ∷ xs) within run end =
     let later = parts-run n xs (omega arith) (λ k lt. run (suc k) (omega arith)) (λ lt. end (omega arith)) in
     (later.0, rw (run 0 (omega arith), later.1) refl, later.2)
 
--- a word and what stands behind it
+-- a word and what is behind it
 pub words-word : (n : ℕ) (xs : List ℕ) → 0 < n → n ≤ length xs → ((k : ℕ) → k < n → is_blank (get_or xs k 0) ≡ false) → (n < length xs → is_blank (get_or xs n 0) ≡ true)
     → words_of xs ≡ take n xs ∷ words_of (drop n xs)
 words-word zero xs positive within run end = absurd (omega arith)
@@ -61,7 +61,7 @@ unfolding parts_of
 words-none xs n within blank all =
     sym (words-blanks n xs within blank) ∙ ap words_of (drop_of_length-le xs all)
 
--- behind blanks stands a word, and behind it the others; the rests are written as the code takes them
+-- behind blanks is a word, and behind it the others; the rests are written as the code takes them
 pub words-next : (xs : List ℕ) (n m : ℕ) → n ≤ length xs → ((k : ℕ) → k < n → is_blank (get_or xs k 0) ≡ true) → (n < length xs → is_blank (get_or xs n 0) ≡ false)
     → n < length xs → m ≤ length (take (length xs - n) (drop n xs)) → ((k : ℕ) → k < m → is_blank (get_or (take (length xs - n) (drop n xs)) k 0) ≡ false)
     → (m < length (take (length xs - n) (drop n xs)) → is_blank (get_or (take (length xs - n) (drop n xs)) m 0) ≡ true)
@@ -84,6 +84,6 @@ words-next xs n m within blank first behind short run end =
     let rest' : take (length (drop n xs) - m) (drop m (drop n xs)) ≡ drop m (drop n xs) = take_rest (drop n xs) m in
     sym (words-blanks n xs within blank) ∙ rw (rest, rest') word
 
--- the length of what stands behind a place, as the code takes it
+-- the length of what is behind a place, as the code takes it
 pub rest_len : (xs : List ℕ) (n : ℕ) → length (take (length xs - n) (drop n xs)) ≡ length xs - n
 rest_len xs n = ap length (take_rest xs n) ∙ length-drop n xs

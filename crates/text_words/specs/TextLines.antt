@@ -9,7 +9,7 @@ abbrev pub begins_with_feed : List ℕ → Bool
 begins_with_feed [] = false
 begins_with_feed (b ∷ bs) = b == 10
 
--- the text without the carriage returns that stand right before a line feed
+-- the text without the carriage returns that are right before a line feed
 unfoldable pub without_returns : List ℕ → List ℕ
 without_returns [] = []
 without_returns (b ∷ bs) = if b == 13 && begins_with_feed bs then without_returns bs else b ∷ without_returns bs

@@ -1,4 +1,4 @@
--- The words of a line: its parts between blanks. Blanks may stand before the first word and after the last one, too.
+-- The words of a line: its parts between blanks. Blanks may be before the first word and after the last one, too.
 use Rattle.std.specs.Prelude.{ℕ, ◌==◌, ◌||◌, Bool, true, false, not, List, [], ◌∷◌, filter, if◌then◌else◌}
 use Rattle.byte_forms.specs.Lines.{onto_first}
 

@@ -18,7 +18,7 @@ pub fn without_return(line: &[u8]) -> &[u8]
 }
 
 /// The first line of the text, without its line feed and a carriage return before that, and the text behind it. A
-/// text that isn't empty has a line, and no line feed needs to stand at its end.
+/// text that isn't empty has a line, and no line feed needs to be at its end.
 pub fn next_text_line(bytes: &[u8]) -> Option<(&[u8], &[u8])>
     ensures none { IsNone result ↔ (bytes.now ≡ []) }
     ensures line { IfSome result (λ split. text_lines bytes.now ≡ split.0.now ∷ text_lines split.1.now) }

@@ -10,7 +10,7 @@ fn is_blank(byte: u8) -> bool
     byte == b' ' || byte == b'\t'
 }
 
-/// How many bytes stand before the first that is a blank, or that is none.
+/// How many bytes are before the first that is a blank, or that is none.
 fn run_len(blank: bool, bytes: &[u8]) -> usize
     ensures within { result ≤ length bytes.now }
     ensures run { (k : ℕ) → k < result → is_blank (slice_index bytes.now k) ≡ blank }
@@ -24,7 +24,7 @@ fn run_len(blank: bool, bytes: &[u8]) -> usize
     bytes.len()
 }
 
-/// The first word, and what stands behind it.
+/// The first word, and what is behind it.
 pub fn next_word(line: &[u8]) -> Option<(&[u8], &[u8])>
     ensures { MatchOption result (words_of line.now ≡ []) (λ split. words_of line.now
         ≡ split.0.now ∷ words_of split.1.now) }

@@ -1,4 +1,4 @@
--- A signed number that stands among the tokens of a text, a number without `0x` behind an optional sign, is a decimal text.
+-- A signed number that is among the tokens of a text, a number without `0x` behind an optional sign, is a decimal text.
 use Rattle.std.proofs.Common.{◌≡◌, ◌∙◌, sym, ap, subst, refl, ℕ, ◌+◌, ◌<◌, ◌⊎◌, inl, inr, Bool, true, false, ◌&&◌, List, [], ◌∷◌, ◌++◌}
 use Rattle.std.proofs.Common.{length, append_assoc, arith}
 use Rattle.std.specs.Prelude.{Option, Some, None, All, IsTrue, codes, nat_le, if◌then◌else◌}
@@ -8,11 +8,11 @@ use Rattle.std.proofs.lemmas.Bool.{and_parts, or_cases, eqb-true}
 use Rattle.std.proofs.lemmas.List.Elements.{All-nil, All-cons, All-head, All-tail}
 use Rattle.std.proofs.lemmas.Slice.Eq.{bytes_eq-Decides}
 use Rattle.exact_scale.specs.Digits.{IsDigit, AllDigits}
-use Rattle.exact_scale.specs.Spelling as decimal
-use Rattle.exact_scale.specs.Spelling.{fraction_digits, fraction_text, exponent_text, IsLawfulExponent, IsDecimalText}
+use Rattle.exact_scale.specs.Numeral as decimal
+use Rattle.exact_scale.specs.Numeral.{fraction_digits, fraction_text, exponent_text, IsValidExponent, IsDecimalText}
 use Rattle.sig_text.specs.Bytes.{is_nought, is_hexadecimal_mark, is_plus_or_minus}
-use Rattle.sig_text.specs.Spelling.{AreDecimalDigits, IsAfter, IsHexadecimal, IsFraction, IsBareFraction, IsPower, IsExponent, IsMantissa}
-use Rattle.sig_text.specs.Spelling.{IsDecimal, IsNumber, IsSpelling}
+use Rattle.sig_text.specs.Lexemes.{AreDecimalDigits, IsAfter, IsHexadecimal, IsFraction, IsBareFraction, IsPower, IsExponent, IsMantissa}
+use Rattle.sig_text.specs.Lexemes.{IsDecimal, IsNumber, IsLexeme}
 use Rattle.sig_text.specs.Tokens.{IsToken, AreTokens, IsTokens}
 use Rattle.sig_text.specs.declared.token.TokenKind.{TokenKind}
 use Rattle.sig_text.specs.declared.token.TokenKind.TheVariants.{Word, Number, Str, Sign}
@@ -68,20 +68,20 @@ mantissa_of s mantissa = elim mantissa [
   | inr bare ↦ bare_mantissa s bare
   | inl parts ↦ elim parts.second [
     | inl nothing ↦ record {
-      whole = parts.front;
+      whole = parts.prefix;
       fraction = None;
-      joined = parts.joined ∙ ap (λ r. parts.front ++ r) nothing;
-      whole_digits = digits_of parts.front parts.first.each;
+      joined = parts.joined ∙ ap (λ r. parts.prefix ++ r) nothing;
+      whole_digits = digits_of parts.prefix parts.first.each;
       fraction_all = tt;
       some_digit = let some = parts.first.some in omega arith;
     }
     | inr fraction ↦
         let p = pointed parts.rest fraction in
         record {
-          whole = parts.front;
+          whole = parts.prefix;
           fraction = Some p.digits;
-          joined = parts.joined ∙ ap (λ r. parts.front ++ r) p.joined;
-          whole_digits = digits_of parts.front parts.first.each;
+          joined = parts.joined ∙ ap (λ r. parts.prefix ++ r) p.joined;
+          whole_digits = digits_of parts.prefix parts.first.each;
           fraction_all = p.all;
           some_digit = let some = parts.first.some in omega arith;
         }
@@ -92,7 +92,7 @@ mantissa_of s mantissa = elim mantissa [
 record Raised (s : List ℕ) : Type 0 where
   exponent : decimal.Exponent
   joined : s ≡ exponent_text (Some exponent)
-  lawful : IsLawfulExponent (Some exponent)
+  valid : IsValidExponent (Some exponent)
 
 -- an optional sign and digits
 record Signed (s : List ℕ) : Type 0 where
@@ -134,7 +134,7 @@ raised_by : (b : ℕ) (power : List ℕ) (p : Signed power) → (b ≡ 101) ⊎ 
 raised_by b power p mark = record {
   exponent = record { mark = b; sign = p.sign; digits = p.digits };
   joined = ap (λ r. b ∷ r) p.joined;
-  lawful = (mark, p.all, p.some);
+  valid = (mark, p.all, p.some);
 }
 
 raised_of : (s : List ℕ) → IsExponent s → Raised s
@@ -146,25 +146,25 @@ raised_of (b ∷ power) exponent = raised_by b power (power_of power exponent.1)
 
 -- ---- so a number without `0x` is a decimal text, with each sign
 
-decimal_by : (sign : decimal.Sign) (text front rest : List ℕ) (m : Mantissa front) (exponent : Option decimal.Exponent)
-    → text ≡ front ++ rest
-    → rest ≡ exponent_text exponent → IsLawfulExponent exponent → IsDecimalText (decimal.sign_text sign ++ text)
-decimal_by sign text front rest m exponent joined tail lawful = (
+decimal_by : (sign : decimal.Sign) (text prefix rest : List ℕ) (m : Mantissa prefix) (exponent : Option decimal.Exponent)
+    → text ≡ prefix ++ rest
+    → rest ≡ exponent_text exponent → IsValidExponent exponent → IsDecimalText (decimal.sign_text sign ++ text)
+decimal_by sign text prefix rest m exponent joined tail valid = (
   record { sign = sign; whole = m.whole; fraction = m.fraction; exponent = exponent },
   record {
-    lawful = record { whole = m.whole_digits; fraction = m.fraction_all; some_digit = m.some_digit; exponent = lawful };
+    valid = record { whole = m.whole_digits; fraction = m.fraction_all; some_digit = m.some_digit; exponent = valid };
     joined = ap (λ t. decimal.sign_text sign ++ t)
-        (joined ∙ ap (λ r. front ++ r) tail ∙ ap (λ f. f ++ exponent_text exponent) m.joined ∙ append_assoc m.whole
+        (joined ∙ ap (λ r. prefix ++ r) tail ∙ ap (λ f. f ++ exponent_text exponent) m.joined ∙ append_assoc m.whole
         (fraction_text m.fraction) (exponent_text exponent));
   },
 )
 
 with_sign : (sign : decimal.Sign) (text : List ℕ) → IsDecimal text → IsDecimalText (decimal.sign_text sign ++ text)
 with_sign sign text d = elim d.second [
-  | inl nothing ↦ decimal_by sign text d.front d.rest (mantissa_of d.front d.first) None d.joined nothing tt
+  | inl nothing ↦ decimal_by sign text d.prefix d.rest (mantissa_of d.prefix d.first) None d.joined nothing tt
   | inr exponent ↦
       let e = raised_of d.rest exponent in
-      decimal_by sign text d.front d.rest (mantissa_of d.front d.first) (Some e.exponent) d.joined e.joined e.lawful
+      decimal_by sign text d.prefix d.rest (mantissa_of d.prefix d.first) (Some e.exponent) d.joined e.joined e.valid
 ]
 
 both : (x y : Bool) → IsTrue x → IsTrue y → (x && y) ≡ true
@@ -187,7 +187,7 @@ number_with_sign sign text number unmarked = elim number [
 pub number_is_decimal : (text : List ℕ) → IsNumber text → is_hexadecimal text ≡ false → IsDecimalText text
 number_is_decimal = number_with_sign decimal.NoSign
 
--- ---- and so is the signed number that stands at the front of tokens
+-- ---- and so is the signed number that is at the front of tokens
 
 from_place : (text : List ℕ) (comments : Bool) (from : ℕ) (tokens : List Token) (to : ℕ) → AreTokens text comments from tokens to
     → All (IsToken text) tokens
@@ -220,8 +220,8 @@ number_says text sign s e token Word rest is there = tt
 number_says text sign s e token Str rest is there = tt
 number_says text sign s e token Sign rest is there = tt
 number_says text sign s e token Number rest is there =
-    let P : TokenKind → Type 0 = λ kind. IsSpelling kind (token_text text token) in
-    let number : IsNumber (token_text text token) = subst P is there.spelled in
+    let P : TokenKind → Type 0 = λ kind. IsLexeme kind (token_text text token) in
+    let number : IsNumber (token_text text token) = subst P is there.lexeme in
     where_decimal text (record { sign = sign; number = token }) rest (is_hexadecimal (token_text text token)) (λ unmarked.
     subst (λ (t : List ℕ). IsDecimalText (t ++ token_text text token)) (sym e) (number_with_sign s (token_text text token) number unmarked))
 

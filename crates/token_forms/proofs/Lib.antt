@@ -1,4 +1,4 @@
 pub mod DecimalTextLaws
 pub mod RunLaws
 pub mod ScaleLaws
-pub mod StandsLaws
+pub mod ParsesLaws

@@ -6,7 +6,7 @@ use Rattle.std.proofs.Math.Nat.{le-mul_of_pos_right, one-le-pow}
 use Rattle.std.proofs.lemmas.Bool.Decides.{nat_tests}
 use Rattle.std.proofs.lemmas.Int.{unsigned_abs-mul}
 use Rattle.exact_scale.specs.declared.scaling.Scale.{Scale}
-use Rattle.exact_scale.specs.Spelling.{Denotes}
+use Rattle.exact_scale.specs.Numeral.{Denotes}
 use Rattle.exact_scale.specs.Limits.{most_places, numerator_limit, IsNarrow, IsScale, IsTooWide, numerator_over}
 use Rattle.token_forms.specs.declared.fault.NumberFault.{NumberFault}
 use Rattle.token_forms.specs.declared.fault.NumberFault.TheVariants.{Wide, Memory}

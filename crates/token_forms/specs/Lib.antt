@@ -1,5 +1,5 @@
--- what stands at the front of tokens, as relations
-pub mod Stands
+-- what is at the front of tokens, as relations
+pub mod Grammar
 -- the same as functions, which the readers equal
 pub mod Pieces
 pub mod Numbers

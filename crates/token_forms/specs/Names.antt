@@ -1,6 +1,6 @@
 -- The names of a database that a reader makes of a text: words of the text.
 use Rattle.std.specs.Prelude.{ℕ, All, List}
-use Rattle.sig_text.specs.Spelling.{IsWord}
+use Rattle.sig_text.specs.Lexemes.{IsWord}
 use Rattle.bench_model.specs.Rules.{IsName}
 use Rattle.bench_model.specs.declared.database.Signal.{Signal}
 use Rattle.bench_model.specs.declared.database.Message.{Message}

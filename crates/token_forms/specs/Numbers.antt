@@ -3,7 +3,7 @@
 use Rattle.std.specs.Prelude.{ℕ, ◌||◌, ◌&&◌, ℤ, pos, neg_ℤ, Bool, false, List, [], ◌∷◌, ◌++◌, drop, Option, Some, None, codes, if◌then◌else◌}
 use Rattle.std.specs.Option.{option_map}
 use Rattle.std.specs.Str.{bytes_eq}
-use Rattle.exact_scale.specs.Spelling.{Denotes}
+use Rattle.exact_scale.specs.Numeral.{Denotes}
 use Rattle.exact_scale.specs.Limits.{IsTooWide, least_raw_size, greatest_raw}
 use Rattle.byte_forms.specs.declared.numerals.Radix.TheVariants.{Decimal, Hexadecimal}
 use Rattle.byte_forms.specs.Numerals.{number_up_to, is_numeral}
@@ -59,7 +59,7 @@ signed_at text [] = None
 signed_at text (token ∷ rest) =
     if is_sign_token text token then after_sign text (Some token) rest else after_sign text None (token ∷ rest)
 
--- the text of a signed number: its sign, if it has one, and its number, without what stands between them
+-- the text of a signed number: its sign, if it has one, and its number, without what is between them
 abbrev pub sign_text : List ℕ → Option Token → List ℕ
 sign_text text None = []
 sign_text text (Some sign) = token_text text sign
@@ -76,7 +76,7 @@ abbrev pub is_minus : List ℕ → Option Token → Bool
 is_minus text None = false
 is_minus text (Some sign) = bytes_eq (token_text text sign) (codes "-")
 
--- the whole number among the raw values of signals that digits with an optional sign spell
+-- the whole number among the raw values of signals that digits with an optional sign denote
 unfoldable pub whole_value : List ℕ → SignedNumber → Option ℤ
 whole_value text n =
     if is_minus text n.sign

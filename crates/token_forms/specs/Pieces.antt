@@ -1,4 +1,4 @@
--- What stands at the front of a list of tokens: a word or a sign that a grammar quotes, a name, a string. What is
+-- What is at the front of a list of tokens: a word or a sign that a grammar quotes, a name, a string. What is
 -- found is given with the tokens after it.
 use Rattle.std.specs.Prelude.{ℕ, List, [], ◌∷◌, Option, Some, None, slice_range, if◌then◌else◌}
 use Rattle.std.specs.Str.{bytes_eq}

@@ -1,9 +1,9 @@
--- Forms that stand one after another, as many as there are: the longest run of whole statements of a text, and the
+-- Forms that are one after another, as many as there are: the longest run of whole statements of a text, and the
 -- repeated parts of a statement.
 use Rattle.std.specs.Prelude.{◌≡◌, ℕ, ◌<◌, zero, suc, List, [], ◌∷◌, length, Option, Some, None}
 use Rattle.sig_text.specs.declared.token.Token.{Token}
 
--- a form says what stands at the front of tokens, and gives the tokens after it
+-- a form says what is at the front of tokens, and gives the tokens after it
 abbrev pub Form : Type 0 → Type 0
 Form A = List Token → Option (A × List Token)
 
@@ -11,7 +11,7 @@ Form A = List Token → Option (A × List Token)
 abbrev pub TakesTokens : {A : Type 0} → Form A → Type 0
 TakesTokens {A} form = (tokens : List Token) (found : A × List Token) → form tokens ≡ Some found → length found.1 < length tokens
 
--- these stand one after another at the front of the tokens, and the tokens after them are the rest
+-- these are one after another at the front of the tokens, and the tokens after them are the rest
 abbrev pub AreRun : {A : Type 0} → Form A → List Token → List A → List Token → Type 0
 AreRun form tokens [] rest = tokens ≡ rest
 AreRun {A} form tokens (x ∷ xs) rest = (middle : List Token) × (form tokens ≡ Some (x, middle)) × AreRun form middle xs rest

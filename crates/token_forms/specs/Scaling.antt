@@ -1,7 +1,7 @@
 -- The scale of a factor and an offset that a text writes as decimals.
 use Rattle.std.specs.Prelude.{◌≡◌, ℕ, ℤ, max, List}
 use Rattle.exact_scale.specs.declared.scaling.Scale.{Scale}
-use Rattle.exact_scale.specs.Spelling.{Denotes}
+use Rattle.exact_scale.specs.Numeral.{Denotes}
 use Rattle.exact_scale.specs.Limits.{IsScale, numerator_over}
 
 -- a factor and an offset over the greater of their powers of ten

@@ -3,22 +3,22 @@
 
 ghost use Rattle.std.specs.Prelude.{◌≡◌, ◌↔◌, ◌⊎◌, ℕ, Bool, List, Some, All, false};
 ghost use Rattle.exact_scale.specs.declared.scaling.Scale.{Scale};
-ghost use Rattle.exact_scale.specs.Spelling.{IsDecimalText};
+ghost use Rattle.exact_scale.specs.Numeral.{IsDecimalText};
 ghost use Rattle.byte_forms.specs.declared.numerals.Radix.{Radix};
 ghost use Rattle.byte_forms.specs.Numerals.{number_up_to};
 ghost use Rattle.sig_text.specs.declared.token.Token.{Token};
-ghost use Rattle.sig_text.specs.Spelling.{IsNumber};
+ghost use Rattle.sig_text.specs.Lexemes.{IsNumber};
 ghost use Rattle.sig_text.specs.Tokens.{IsToken, IsTokens};
 ghost use Rattle.token_forms.specs.declared.numbers.SignedNumber.{SignedNumber};
 ghost use Rattle.token_forms.specs.Runs.{Form, TakesTokens, IsLongestRun, run_of};
 ghost use Rattle.token_forms.specs.Pieces.{literal_at, word_at, string_at};
 ghost use Rattle.token_forms.specs.Numbers.{is_hexadecimal, whole_at, digits_at, number_up_to_at, signed_at, signed_text};
-ghost use Rattle.token_forms.specs.Stands.{One, Quoted, IsWord, IsString, HasValue, IsDigits, Whole, NumberUpTo, Signed};
+ghost use Rattle.token_forms.specs.Grammar.{One, Quoted, IsWord, IsString, HasValue, IsDigits, Whole, NumberUpTo, Signed};
 ghost use Rattle.token_forms.specs.Scaling.{IsScaling, HasNoScaling};
 
 use exact_scale::{a_decimal_text_denotes_one, decimal_is_unique};
 
-/// A number without `0x` is a decimal text, and so is one behind a sign: a signed number that stands among the tokens of a
+/// A number without `0x` is a decimal text, and so is one behind a sign: a signed number that is among the tokens of a
 /// text is never of another form.
 pub fn a_signed_number_is_a_decimal_text()
     ensures number { (text : List ℕ) → IsNumber text → is_hexadecimal text ≡ false → IsDecimalText text }
@@ -49,8 +49,8 @@ pub fn one_scale_or_none()
     a_decimal_text_denotes_one();
 }
 
-/// Each form of a piece finds exactly what stands at the front of the tokens, and leaves the tokens behind it.
-pub fn forms_find_what_stands()
+/// Each form of a piece finds exactly what is at the front of the tokens, and leaves the tokens behind it.
+pub fn forms_find_what_parses()
     ensures quoted { (text literal : List ℕ) (tokens rest : List Token) →
         (literal_at text literal tokens ≡ Some rest) ↔ Quoted text literal tokens rest }
     ensures word { (tokens : List Token) (word : Token) (rest : List Token) →

@@ -1,7 +1,7 @@
 //! Numbers out of tokens.
 
 ghost use Rattle.std.specs.Prelude.{◌≡◌, ◌≤◌, ◌++◌, IfOk, IfErr, IfSome};
-ghost use Rattle.exact_scale.specs.Spelling.{Denotes};
+ghost use Rattle.exact_scale.specs.Numeral.{Denotes};
 ghost use Rattle.exact_scale.specs.Limits.{most_places, IsNarrow, IsRawValue};
 ghost use Rattle.token_forms.specs.Numbers.{whole_at, digits_at, is_hexadecimal, number_in, number_up_to_at, is_sign_token, after_sign, signed_at, signed_text, is_minus, whole_value};
 ghost use Rattle.token_forms.specs.Views.{found_view};
@@ -168,7 +168,7 @@ fn is_minus(bytes: &[u8], sign: Option<Token>) -> bool
     }
 }
 
-/// The whole number among the raw values of signals that digits with an optional sign spell.
+/// The whole number among the raw values of signals that digits with an optional sign denote.
 #[tactic(auto, unfolding(crate::specs::Numbers::whole_value))]
 pub fn whole_value(bytes: &[u8], number: SignedNumber) -> Option<i128>
     ensures value { result ≡ whole_value bytes.now number }

@@ -19,7 +19,7 @@ most_frames = 1000000
 abbrev pub positive : ℕ → Option ℕ
 positive n = if n == 0 then None else Some n
 
--- the number that decimal digits spell, from 1 to the limit; zeros at the front count nothing
+-- the number that decimal digits denote, from 1 to the limit; zeros at the front count nothing
 abbrev pub frame_count : List ℕ → Option ℕ
 frame_count word = option_and_then positive (number_up_to Decimal most_frames word)
 

@@ -13,7 +13,7 @@ is_option (b ∷ rest) = b == 45 && not (bytes_eq rest [])
 abbrev pub is_dashes : List ℕ → Bool
 is_dashes word = bytes_eq word (codes "--")
 
--- the operands among these words, unless an option stands before the first `--`
+-- the operands among these words, unless an option is before the first `--`
 abbrev pub operands : List (List ℕ) → Option (List (List ℕ))
 operands [] = Some []
 operands (word ∷ words) =

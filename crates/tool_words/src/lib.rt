@@ -1,7 +1,7 @@
 //! The words of the tool's command line.
 //!
 //! Words are read by the POSIX utility syntax: a first `--` is dropped and ends the options, of which there are none,
-//! and a single `-` is no option. The crate stands on `byte_forms` (numbers) and takes no memory; the top call asks it which
+//! and a single `-` is no option. The crate builds on `byte_forms` (numbers) and takes no memory; the top call asks it which
 //! command the words name.
 //!
 //! Main theorem: `command_of` gives a command exactly where the words are those of one.

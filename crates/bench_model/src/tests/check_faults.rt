@@ -87,7 +87,7 @@ type MessageRow = (u32, bool, u32, &'static str, &'static [SignalRow]);
 
 /// Messages, and the answer in words.
 const ORDERS: &[(&[MessageRow], &'static str)] = &[
-    // The second of two keys is named, the first that is one: the second 2 stands before the second 1.
+    // The second of two keys is named, the first that is one: the second 2 is before the second 1.
     (
         &[
             (1, false, 8, "A", &[]),

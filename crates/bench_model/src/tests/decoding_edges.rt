@@ -104,7 +104,7 @@ pub const EDGES: &[Case] = &[
         bytes: &[0xff],
         meaning: "Engine; S 255 255 ",
     },
-    // A negative raw value lies in no range; an entry for every value stands before a later one.
+    // A negative raw value lies in no range; an entry for every value is before a later one.
     Case {
         kind: Kind::Lin,
         messages: &[MessageRow {
@@ -151,7 +151,7 @@ pub const EDGES: &[Case] = &[
         bytes: &[0x01, 0x02, 0x05],
         meaning: "Mux; Top 1 1 ; Mid 2 2 ; Low 5 5 ",
     },
-    // A marked signal without a link stands under the one multiplexor.
+    // A marked signal without a link is under the one multiplexor.
     Case {
         kind: Kind::Can,
         messages: &[UNLINKED],

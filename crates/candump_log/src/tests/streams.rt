@@ -197,7 +197,7 @@ fn what_was_taken_is_counted_by_bytes(rt: HostRuntime) -> Result<(), Fail> {
     assert_taken(&rt, rt.alloc(), 46, [46, 46, 69])
 }
 
-/// Whether a line stands ready before the next call, and whether the call gives one.
+/// Whether a line is ready before the next call, and whether the call gives one.
 fn assert_ready(rt: &impl Abort, lines: &mut Lines<MemSource>, ready: bool, some: bool) {
     if lines.failed() {
         panic!(rt; "a call was refused");
@@ -211,7 +211,7 @@ fn assert_ready(rt: &impl Abort, lines: &mut Lines<MemSource>, ready: bool, some
 }
 
 #[test]
-fn a_line_stands_ready_where_it_was_read(rt: HostRuntime) -> Result<(), Fail> {
+fn a_line_is_ready_where_it_was_read(rt: HostRuntime) -> Result<(), Fail> {
     let alloc = rt.alloc();
     let bytes = b"(1.000000) can0 100#01\n(1.000000) can0 100#02\nx";
     let mut lines = reader(&rt, alloc, bytes, 65_536, &[])?;

@@ -1,4 +1,4 @@
-//! What stands before the line `GO`.
+//! What is before the line `GO`.
 
 use super::*;
 use std::process::Abort;
@@ -64,7 +64,7 @@ fn says(
 }
 
 #[test]
-fn its_end_stands_among_the_first_65536_bytes(rt: HostRuntime) -> Result<(), Fail> {
+fn its_end_parses_among_the_first_65536_bytes(rt: HostRuntime) -> Result<(), Fail> {
     let alloc = rt.alloc();
     says(
         &rt,
@@ -104,7 +104,7 @@ fn first_of_lines(alloc: Global, count: u32, len: usize) -> Result<Vec<u8>, Allo
 }
 
 #[test]
-fn the_last_byte_that_may_come_stands_in_the_faulty_line(rt: HostRuntime) -> Result<(), Fail> {
+fn the_last_byte_that_may_come_is_in_the_faulty_line(rt: HostRuntime) -> Result<(), Fail> {
     let text = first_of_lines(rt.alloc(), 9363, 65_536)?;
     assert!(rt; text.len() <= 65_536);
     assert_eq!(rt; wants_before_go(&text, false), Asking::Long { n: 9363 });

@@ -1,8 +1,8 @@
 use Rattle.bench_model.proofs.ByteNumberLaws as law
 use Rattle.bench_model.proofs.laws.bytes_as_number.Goals as goal
 
-pub returns-clause-front : goal.returns-clause-front
-returns-clause-front c = law.front_bytes
+pub returns-clause-prefix : goal.returns-clause-prefix
+returns-clause-prefix c = law.prefix_bytes
 
 pub returns-clause-rest : goal.returns-clause-rest
 returns-clause-rest c = law.rest_bytes

@@ -10,7 +10,7 @@ returns-in-Ok-clause-ends g c =
 
 pub returns-in-Ok-clause-keeps : goal.returns-in-Ok-clause-keeps
 returns-in-Ok-clause-keeps g c =
-    record { files = c.in-Ok.ensures.files; opens = c.in-Ok.ensures.opens; reads = c.in-Ok.ensures.reads; writes = c.write_counts.ensures.front.later }
+    record { files = c.in-Ok.ensures.files; opens = c.in-Ok.ensures.opens; reads = c.in-Ok.ensures.reads; writes = c.write_counts.ensures.prefix.later }
 
 pub returns-in-Err-clause-ends : goal.returns-in-Err-clause-ends
 returns-in-Err-clause-ends g c = rw c.status_of-in-Err.ensures (refused_end c.args.name.now _ c.in-Err.refused c.in-Err.ensures refl refl)

@@ -1,6 +1,6 @@
 use Rattle.std.proofs.Common.{◌≤◌, map, refl, sym, ap, subst}
 use Rattle.bench_model.specs.declared.database.Bench.{Bench}
-use Rattle.bench_inputs.specs.Reading.{log_told}
+use Rattle.bench_inputs.specs.Reading.{log_state}
 use Rattle.image_compiler.specs.Size.{image_size}
 use Rattle.bench_server.proofs.LoadLaws.{same_error}
 use Rattle.bench_server.proofs.PhaseLaws.{bench_since, image_after, decode_after}
@@ -8,10 +8,10 @@ use Rattle.bench_server.proofs.decoding.decode.Goals as goal
 
 pub returns-in_err-image-clause-ends : goal.returns-in_err-image-clause-ends
 returns-in_err-image-clause-ends g c name has =
-    let told = λ (log : g.row.B-Log.Denot). log_told (g.B.Log.Source.left log) (g.B.Log.Source.taken log) (g.B.Log.Source.read_faults log) (g.B.Log.Source.ended log) in
+    let known = λ (log : g.row.B-Log.Denot). log_state (g.B.Log.Source.left log) (g.B.Log.Source.taken log) (g.B.Log.Source.read_faults log) (g.B.Log.Source.ended log) in
     rw (same_error c.from_residual-in_err-image.result c.in_err-image.field-0.0 c.from_residual-in_err-image.ensures)
     (image_after name c.args.plan.now _ c.items-buses.result.now c.in_ok-bench.bench _ c.in_err-image.field-0.0 c.items-buses.ensures c.in_ok-bench.ensures has
-    c.in_err-image.ensures refl (ap (map told) c.requires.none) refl)
+    c.in_err-image.ensures refl (ap (map known) c.requires.none) refl)
 
 pub decode_logs-requires-clause-bench : goal.decode_logs-requires-clause-bench
 decode_logs-requires-clause-bench g c =

@@ -1,6 +1,6 @@
 use Rattle.std.proofs.Common.{Ok, Err, refl, ap, ◌∙◌}
 use Rattle.bench_model.specs.declared.database.Bench.{Bench}
-use Rattle.bench_inputs.specs.Reading.{log_told}
+use Rattle.bench_inputs.specs.Reading.{log_state}
 use Rattle.bench_server.specs.ToolText.{all_wanted}
 use Rattle.bench_server.specs.declared.refused.DecodeRefused.TheVariants as refused
 use Rattle.bench_server.proofs.LogLaws.{none_ended}
@@ -15,7 +15,7 @@ returns-in_err-open_logs-clause-ends g c name plan same fits has =
 
 pub print_buses-requires-clause-fresh : goal.print_buses-requires-clause-fresh
 print_buses-requires-clause-fresh g c =
-    none_ended (λ (log : g.row.B-Log.Denot). log_told (g.B.Log.Source.left log) (g.B.Log.Source.taken log) (g.B.Log.Source.read_faults log) (g.B.Log.Source.ended log)) _ _
+    none_ended (λ (log : g.row.B-Log.Denot). log_state (g.B.Log.Source.left log) (g.B.Log.Source.taken log) (g.B.Log.Source.read_faults log) (g.B.Log.Source.ended log)) _ _
     c.open_logs.new.logs.items c.in_ok-open_logs.ensures.opens.fresh
 
 pub returns-in_err-print_buses-clause-ends : goal.returns-in_err-print_buses-clause-ends

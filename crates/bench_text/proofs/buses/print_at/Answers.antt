@@ -1,12 +1,12 @@
 use Rattle.std.proofs.Common.{◌≡◌, ◌<◌, suc, length, take, drop, map, is_ok, true, arith}
 use Rattle.std.specs.Prelude.{insert}
-use Rattle.candump_log.specs.LinesState.{told}
+use Rattle.candump_log.specs.LinesState.{source_state}
 use Rattle.bench_text.proofs.PlaceLaws.{parted_before, parted_after, same_after, length_before}
 use Rattle.bench_text.proofs.buses.print_at.Goals as goal
 
 pub returns-clause-prints : goal.returns-clause-prints
 returns-clause-prints g c =
-    let tells = λ (log : g.row.S.Denot). told (g.S.Source.left log) (g.S.Source.taken log) (g.S.Source.read_faults log) (g.S.Source.ended log) in
+    let tells = λ (log : g.row.S.Denot). source_state (g.S.Source.left log) (g.S.Source.taken log) (g.S.Source.read_faults log) (g.S.Source.ended log) in
     let i = c.args.place in
     let items = c.args.logs.now.items in
     let lt : i < length items = omega (arith, c.requires.bus, c.requires.count, c.args.logs.now.ok) in

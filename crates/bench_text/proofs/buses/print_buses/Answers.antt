@@ -3,7 +3,7 @@ use Rattle.std.proofs.lemmas.List.{length-map}
 use Rattle.std.proofs.lemmas.List.Elements.{All-map}
 use Rattle.port_io.specs.OtherSide.{SourceState}
 use Rattle.bench_model.specs.declared.database.Bench.{Bench}
-use Rattle.candump_log.specs.LinesState.{told}
+use Rattle.candump_log.specs.LinesState.{source_state}
 use Rattle.bus_text.specs.Buffering.{output}
 use Rattle.bench_text.specs.declared.refused.BusesRefused.TheVariants as buses
 use Rattle.bench_text.proofs.BusesLaws.{same_error, goes_on_from, next_log, goes_on, stopped, printed, not_flushed}
@@ -11,7 +11,7 @@ use Rattle.bench_text.proofs.buses.print_buses.Goals as goal
 
 pub loop-place-init : goal.loop-place-init
 loop-place-init g c =
-    let tells : g.row.S.Denot → SourceState = λ log. told (g.S.Source.left log) (g.S.Source.taken log) (g.S.Source.read_faults log) (g.S.Source.ended log) in
+    let tells : g.row.S.Denot → SourceState = λ log. source_state (g.S.Source.left log) (g.S.Source.taken log) (g.S.Source.read_faults log) (g.S.Source.ended log) in
     record {
       goes = goes_on_from c.uses_of_a_buffer_are_one.ensures.unused c.args.wants.now c.args.image.now (map tells c.args.logs.now.items)
           (output (g.K.Sink.written c.args.out.now) (g.K.Sink.write_faults c.args.out.now) c.args.buffer.now)
@@ -24,7 +24,7 @@ loop-place-init g c =
 
 pub print_at-requires-clause-log : goal.print_at-requires-clause-log
 print_at-requires-clause-log g c =
-    let tells : g.row.S.Denot → SourceState = λ log. told (g.S.Source.left log) (g.S.Source.taken log) (g.S.Source.read_faults log) (g.S.Source.ended log) in
+    let tells : g.row.S.Denot → SourceState = λ log. source_state (g.S.Source.left log) (g.S.Source.taken log) (g.S.Source.read_faults log) (g.S.Source.ended log) in
     let items = c.loop-place.logs.items in
     next_log c.loop-place.invariant.goes
     (omega (arith, length-map items tells, c.loop-place.logs.ok, c.loop-place.invariant.len, c.requires.count, ap length c.items.ensures, ap (λ (b : Bench). length b.buses) c.bench.ensures.bench, c.loop-place-test.true))
@@ -48,14 +48,14 @@ loop-place-preserved g c =
 
 pub returns-in_err-flush-clause-prints : goal.returns-in_err-flush-clause-prints
 returns-in_err-flush-clause-prints g c =
-    let tells : g.row.S.Denot → SourceState = λ log. told (g.S.Source.left log) (g.S.Source.taken log) (g.S.Source.read_faults log) (g.S.Source.ended log) in
+    let tells : g.row.S.Denot → SourceState = λ log. source_state (g.S.Source.left log) (g.S.Source.taken log) (g.S.Source.read_faults log) (g.S.Source.ended log) in
     let all : length (map tells c.args.logs.now.items) ≤ c.loop-place.place = omega (arith, length-map c.args.logs.now.items tells, c.args.logs.now.ok, c.requires.count, ap length c.items.ensures, ap (λ (b : Bench). length b.buses) c.bench.ensures.bench, c.loop-place-test.false) in
     rw (same_error c.from_residual.result buses.WriteFault c.from_residual.ensures)
     (not_flushed c.uses_of_a_buffer_are_one.ensures.joined c.loop-place.invariant.goes all c.flush.ensures.kept c.requires.empty c.in_err-flush.ensures.cause.failed)
 
 pub returns-clause-prints : goal.returns-clause-prints
 returns-clause-prints g c =
-    let tells : g.row.S.Denot → SourceState = λ log. told (g.S.Source.left log) (g.S.Source.taken log) (g.S.Source.read_faults log) (g.S.Source.ended log) in
+    let tells : g.row.S.Denot → SourceState = λ log. source_state (g.S.Source.left log) (g.S.Source.taken log) (g.S.Source.read_faults log) (g.S.Source.ended log) in
     let law = c.uses_of_a_buffer_are_one.ensures in
     printed law.joined law.written c.loop-place.invariant.goes
     (omega (arith, length-map c.args.logs.now.items tells, c.args.logs.now.ok, c.requires.count, ap length c.items.ensures, ap (λ (b : Bench). length b.buses) c.bench.ensures.bench, c.loop-place-test.false))

@@ -1,12 +1,12 @@
 use Rattle.dbc_grammar.proofs.PartLaws.{found_both}
-use Rattle.dbc_grammar.proofs.StatementStandsLaws.{Below, statement_part}
+use Rattle.dbc_grammar.proofs.StatementParsesLaws.{Below, statement_part}
 use Rattle.dbc_grammar.specs.Forms.{statement_at}
-use Rattle.dbc_grammar.specs.Statements.{Stands}
+use Rattle.dbc_grammar.specs.Statements.{Parses}
 use Rattle.dbc_grammar.proofs.laws.forms_are_statements.Goals as goal
 
 pub returns : goal.returns
 returns c =
-    let f = c.forms_find_what_stands.ensures in
+    let f = c.forms_find_what_parses.ensures in
     let below : Below = record {
       pieces = record {
         quoted = f.quoted;
@@ -22,4 +22,4 @@ returns c =
       ranges = record { some = c.one_longest_run-3.ensures.some; one = c.one_longest_run-3.ensures.one };
       tokens = record { some = c.one_longest_run-4.ensures.some; one = c.one_longest_run-4.ensures.one };
     } in
-    λ text tokens statement rest. found_both (statement_at text) (Stands text) (statement_part below text) tokens statement rest
+    λ text tokens statement rest. found_both (statement_at text) (Parses text) (statement_part below text) tokens statement rest

@@ -5,7 +5,7 @@ use Rattle.multiplex_tree.specs.Fault.{IsFault}
 use Rattle.dbc_grammar.specs.declared.statement.SignalForm.{SignalForm}
 use Rattle.dbc_grammar.proofs.read.mux_fault.Goals as goal
 
--- what stands at a place is what is read there
+-- what is at a place is what is read there
 got : (forms : List SignalForm) (i : ℕ) (d : SignalForm) → i < length forms → slice_get forms i ≡ Some (get_or forms i d)
 got [] i d below = absurd (omega arith)
 got (f ∷ forms) zero d below = refl

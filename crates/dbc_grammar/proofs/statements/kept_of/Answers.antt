@@ -1,10 +1,10 @@
 use Rattle.std.proofs.Common.{◌≡◌, ◌∙◌, sym, ap, subst, length, List, ℕ}
 use Rattle.sig_text.specs.declared.token.Token.{Token}
 use Rattle.token_forms.specs.Runs.{run_of}
-use Rattle.token_forms.specs.Stands.{Each}
+use Rattle.token_forms.specs.Grammar.{Each}
 use Rattle.token_forms.specs.Views.{found_view}
 use Rattle.dbc_grammar.specs.declared.statements.Kept.{Kept}
-use Rattle.dbc_grammar.specs.Statements.{Stands}
+use Rattle.dbc_grammar.specs.Statements.{Parses}
 use Rattle.dbc_grammar.specs.Forms.{statement_at}
 use Rattle.dbc_grammar.specs.Gather.{messages_in, notes_in, messages_of, notes_of}
 use Rattle.dbc_grammar.specs.Kept.{IsKeptBefore}
@@ -12,14 +12,14 @@ use Rattle.dbc_grammar.proofs.RunLaws.{rest_taken, rest_follows, rest_left, kept
 use Rattle.dbc_grammar.proofs.statements.kept_of.Goals as goal
 
 before : (text : List ℕ) (tokens rest : List Token) (kept : Kept)
-    → Each (Stands text) (run_of (statement_at text) tokens).0 tokens (run_of (statement_at text) tokens).1
+    → Each (Parses text) (run_of (statement_at text) tokens).0 tokens (run_of (statement_at text) tokens).1
     → rest ≡ (run_of (statement_at text) tokens).1 → kept.messages.items ≡ messages_of (run_of (statement_at text) tokens).0
     → kept.notes.items ≡ notes_of (run_of (statement_at text) tokens).0 → IsKeptBefore text tokens kept rest
 before text tokens rest kept longest left messages notes =
     let statements = (run_of (statement_at text) tokens).0 in
     record {
       statements = statements;
-      all = subst (λ (r : List Token). Each (Stands text) statements tokens r) (sym left) longest;
+      all = subst (λ (r : List Token). Each (Parses text) statements tokens r) (sym left) longest;
       messages = messages;
       notes = notes;
     }

@@ -2,7 +2,7 @@ use Rattle.std.proofs.Common.{ℤ, ◌∙◌, sym, subst, rules, arith}
 use Rattle.std.specs.Prelude.{FitsSigned}
 use Rattle.std.specs.Int.{w128}
 use Rattle.std.proofs.lemmas.Int.{to_z-of_z}
-use Rattle.exact_scale.specs.Spelling.{Denotes}
+use Rattle.exact_scale.specs.Numeral.{Denotes}
 use Rattle.exact_scale.proofs.ReadLaws.{parts_move, parts_denote, parts_wide}
 use Rattle.exact_scale.proofs.reading.narrow.Goals as goal
 

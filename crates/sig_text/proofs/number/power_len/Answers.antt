@@ -3,8 +3,8 @@ use Rattle.std.specs.List.{prefix_len}
 use Rattle.std.specs.Char.{is_ascii_digit}
 use Rattle.std.proofs.lemmas.List.{take_rest, get_or_past}
 use Rattle.sig_text.specs.Bytes.{is_plus_or_minus}
-use Rattle.sig_text.specs.Fronts.{IsLongestFront}
-use Rattle.sig_text.specs.Spelling.{IsPower}
+use Rattle.sig_text.specs.Prefixes.{IsLongestPrefix}
+use Rattle.sig_text.specs.Lexemes.{IsPower}
 use Rattle.sig_text.proofs.NumberLaws.{power_signed, power_plain}
 use Rattle.sig_text.proofs.number.power_len.Goals as goal
 
@@ -20,4 +20,4 @@ returns-in_default c =
     let text = c.args.text.now in
     let past : length text ≤ 0 → get_or text 0 0 ≡ 0 = get_or_past text 0 0 in
     let plain : is_plus_or_minus (get_or text 0 0) ≡ false = grind arith in
-    subst (IsLongestFront IsPower text) (sym c.digits_len-in_default.ensures.run) (power_plain text plain)
+    subst (IsLongestPrefix IsPower text) (sym c.digits_len-in_default.ensures.run) (power_plain text plain)

@@ -1,5 +1,5 @@
 use Rattle.std.proofs.Common.{ℕ, ◌<◌}
-use Rattle.sig_text.specs.Spelling.{ClosesString}
+use Rattle.sig_text.specs.Lexemes.{ClosesString}
 use Rattle.sig_text.proofs.string.string_len.Given as goal
 
 -- no quote before this place closes the string

@@ -4,7 +4,7 @@ use Rattle.token_forms.proofs.numbers.decimal_in.Goals as goal
 
 pub returns-in-Err-Form-clause-wide : goal.returns-in-Err-Form-clause-wide
 returns-in-Err-Form-clause-wide c =
-    let none = c.in-Err-Form.ensures.form.0 (search rules) in λ num k denotes. absurd (none (denotes.spelling, denotes.spelled))
+    let none = c.in-Err-Form.ensures.form.0 (search rules) in λ num k denotes. absurd (none (denotes.numeral, denotes.written_so))
 
 pub returns-in-Err-Wide-clause-wide : goal.returns-in-Err-Wide-clause-wide
 returns-in-Err-Wide-clause-wide c =

@@ -1,0 +1,68 @@
+use Rattle.std.proofs.Common.{List, subst}
+use Rattle.bench_model.specs.declared.database.Database.{Database}
+use Rattle.bench_model.specs.Limits.{IsMade}
+use Rattle.dbc_grammar.specs.declared.statement.MessageForm.{MessageForm}
+use Rattle.dbc_grammar.specs.Contract.{all_signals}
+use Rattle.dbc_grammar.specs.Naming.{noted_in}
+use Rattle.dbc_grammar.specs.Rows.{IsWideFault}
+use Rattle.dbc_grammar.proofs.RowLaws.{rec-all}
+use Rattle.dbc_grammar.proofs.MadeLaws.{messages_made}
+use Rattle.dbc_grammar.proofs.DatabaseLaws.{read_of, rows_in, messages_in_place, treeless_in_place, database_read, rule_broken, treeless_read, too_wide_read}
+use Rattle.dbc_grammar.proofs.read.build_database.Goals as goal
+
+pub checked-requires : goal.checked-requires
+checked-requires c =
+    let text = c.args.bytes.now in
+    let utf8 = c.is_utf8-utf8.result in
+    let forms = c.args.kept.messages.items in
+    let noted = noted_in text c.args.kept.notes.items in
+    let rows = rows_in text utf8 forms c.deref.result.now c.args.kept.notes.items c.deref-2.result.now c.in-Ok.rows.items
+    c.deref.ensures.value c.deref-2.ensures.value c.in-Ok.ensures.ok in
+    let are = messages_in_place text utf8 noted forms c.deref-3.result.now c.in-Ok.rows.items c.in-Ok-messages_of.messages.items c.of.result
+    c.deref-3.ensures.value c.of.ensures rows c.in-Ok-messages_of.ensures.ok in
+    rec-all IsMade c.of.result (messages_made text utf8 noted forms 0 forms c.of.result c.trees_of_marks.ensures.over are)
+
+pub returns-clause-ok : goal.returns-clause-ok
+returns-clause-ok c = λ tokens kept are_tokens.
+    let text = c.args.bytes.now in
+    let utf8 = c.is_utf8-utf8.result in
+    let forms = c.args.kept.messages.items in
+    let noted = noted_in text c.args.kept.notes.items in
+    let rows = rows_in text utf8 forms c.deref.result.now c.args.kept.notes.items c.deref-2.result.now c.in-Ok.rows.items
+    c.deref.ensures.value c.deref-2.ensures.value c.in-Ok.ensures.ok in
+    let are = messages_in_place text utf8 noted forms c.deref-3.result.now c.in-Ok.rows.items c.in-Ok-messages_of.messages.items c.of.result
+    c.deref-3.ensures.value c.of.ensures rows c.in-Ok-messages_of.ensures.ok in
+    let d : Database = record { messages = c.of.result } in
+    database_read text c.args.kept utf8 d c.checked.result (read_of text tokens c.args.kept kept are_tokens) c.is_utf8-utf8.ensures are
+    c.checked.ensures.ok c.checked.ensures.valid
+
+pub returns-clause-fault : goal.returns-clause-fault
+returns-clause-fault c = λ tokens kept are_tokens.
+    let text = c.args.bytes.now in
+    let utf8 = c.is_utf8-utf8.result in
+    let forms = c.args.kept.messages.items in
+    let noted = noted_in text c.args.kept.notes.items in
+    let rows = rows_in text utf8 forms c.deref.result.now c.args.kept.notes.items c.deref-2.result.now c.in-Ok.rows.items
+    c.deref.ensures.value c.deref-2.ensures.value c.in-Ok.ensures.ok in
+    let are = messages_in_place text utf8 noted forms c.deref-3.result.now c.in-Ok.rows.items c.in-Ok-messages_of.messages.items c.of.result
+    c.deref-3.ensures.value c.of.ensures rows c.in-Ok-messages_of.ensures.ok in
+    let d : Database = record { messages = c.of.result } in
+    rule_broken text c.args.kept utf8 d c.checked.result (read_of text tokens c.args.kept kept are_tokens) c.is_utf8-utf8.ensures are
+    c.checked.ensures.fault
+
+pub returns-in-Err-messages_of-clause-fault : goal.returns-in-Err-messages_of-clause-fault
+returns-in-Err-messages_of-clause-fault c = λ tokens kept are_tokens.
+    let text = c.args.bytes.now in
+    let utf8 = c.is_utf8-utf8.result in
+    let forms = c.args.kept.messages.items in
+    let noted = noted_in text c.args.kept.notes.items in
+    let rows = rows_in text utf8 forms c.deref.result.now c.args.kept.notes.items c.deref-2.result.now c.in-Ok.rows.items
+    c.deref.ensures.value c.deref-2.ensures.value c.in-Ok.ensures.ok in
+    treeless_read text c.args.kept utf8 c.in-Ok.rows.items c.in-Err-messages_of.fault (read_of text tokens c.args.kept kept are_tokens) rows
+    (treeless_in_place text utf8 noted forms c.deref-3.result.now c.in-Ok.rows.items c.in-Err-messages_of.fault
+    c.deref-3.ensures.value rows c.in-Err-messages_of.ensures.fault)
+
+pub returns-in-Err-clause-fault : goal.returns-in-Err-clause-fault
+returns-in-Err-clause-fault c = λ tokens kept are_tokens.
+    too_wide_read c.args.bytes.now c.args.kept c.in-Err.fault (read_of c.args.bytes.now tokens c.args.kept kept are_tokens)
+    (subst (λ (fs : List MessageForm). IsWideFault c.args.bytes.now (all_signals fs) c.in-Err.fault) c.deref.ensures.value c.in-Err.ensures.fault)
