@@ -1,3 +1,4 @@
+pub mod Bytes
 pub mod Classes
 pub mod Lines
 pub mod Pieces
