@@ -1,5 +1,5 @@
 -- Numbers by their digits: a prefix of the digits denotes no greater number.
-use Rattle.std.proofs.Common.{◌≡◌, ℕ, ◌+◌, ◌*◌, ◌<◌, ◌≤◌, true, false, cond, leb, ltb, List, [], ◌∷◌, ◌++◌, length, get_or, take, drop, map, Some, None, refl, sym, ap, ◌∙◌, arith, inl, inr}
+use Rattle.std.proofs.Common.{◌≡◌, ℕ, ◌+◌, ◌*◌, ◌<◌, ◌≤◌, true, false, cond, leb, ltb, List, [], ◌∷◌, ◌++◌, length, get_or, take, drop, map, Some, None, refl, sym, ap, ◌∙◌, arith, inl, inr, ◌↔◌}
 use Rattle.std.specs.Char.{digit_value, is_ascii_hexdigit}
 use Rattle.std.specs.Int.Digits.{number_from_digits, number_from_digits_after}
 use Rattle.std.proofs.lemmas.Int.Digits.{digits_value_is, digits_value_more, number_after_append, number_after_ge}
@@ -114,3 +114,8 @@ number_up_to_takes radix limit text n e =
 pub number_up_to-is : (radix : Radix) (limit : ℕ) (text : List ℕ) → is_numeral radix text ≡ true → number_of radix text ≤ limit → number_up_to radix limit text ≡ Some (number_of radix text)
 unfolding number_up_to
 number_up_to-is radix limit text numeral below = rw (numeral, le-leb (number_of radix text) limit below) refl
+
+-- so a number is read exactly of digits that denote it
+pub number_up_to_exactly : (radix : Radix) (limit n : ℕ) (text : List ℕ) → (number_up_to radix limit text ≡ Some n) ↔ ((is_numeral radix text ≡ true) × (n ≡ number_of radix text) × (n ≤ limit))
+number_up_to_exactly radix limit n text =
+    (number_up_to_takes radix limit text n, λ is. number_up_to-is radix limit text is.0 (omega (arith, is.1, is.2)) ∙ ap (λ (m : ℕ). Some m) (sym is.1))

@@ -1,5 +1,5 @@
 -- A literal at the front of a text, and a field before a literal.
-use Rattle.std.proofs.Common.{◌≡◌, ℕ, true, false, eqb, List, [], ◌∷◌, ◌++◌, length, take, drop, Option, Some, None, refl, sym, ap, ◌∙◌, inl, inr}
+use Rattle.std.proofs.Common.{◌≡◌, ℕ, true, false, eqb, List, [], ◌∷◌, ◌++◌, length, take, drop, Option, Some, None, refl, sym, ap, ◌∙◌, inl, inr, ◌↔◌}
 use Rattle.std.specs.Prelude.{take_while, nat_eq, MatchOption, ◌+◌}
 use Rattle.std.specs.Borrow.{Bor}
 use Rattle.std.specs.List.{list_all}
@@ -53,6 +53,10 @@ after_literal_takes (l ∷ ls) (b ∷ bs) rest e =
           cc
       | inr fails ↦ absurd (cc (rw fails at e))
     ]
+
+-- so a literal is found exactly where the text begins with it
+pub after_literal_exactly : (literal bytes rest : List ℕ) → (after_literal literal bytes ≡ Some rest) ↔ (bytes ≡ literal ++ rest)
+after_literal_exactly literal bytes rest = (after_literal_takes literal bytes rest, λ e. ap (after_literal literal) e ∙ after_literal-append literal rest)
 
 -- a field before a literal that ends it
 pub field_before-append : (class : Class) (literal field rest : List ℕ) → list_all (is_in class) field ≡ true → is_end_of class literal ≡ true → field_before class literal (field ++ (literal ++ rest)) ≡ Some (field, rest)
