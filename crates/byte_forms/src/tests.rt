@@ -26,24 +26,43 @@ fn lines_end_at_line_feeds_and_at_the_end(rt: HostRuntime) {
     assert!(rt; next_line(rest).is_none());
 }
 
+/// Digits, the limit of their number, and the number where it is within the limit.
+const NUMBERS: [(Radix, u64, &[u8], Option<u64>); 9] = [
+    (
+        Radix::Decimal,
+        256,
+        b"0000000000000000000000000000000000000000256",
+        Some(256),
+    ),
+    (
+        Radix::Decimal,
+        255,
+        b"0000000000000000000000000000000000000000256",
+        None,
+    ),
+    (
+        Radix::Decimal,
+        u64::MAX,
+        b"18446744073709551615",
+        Some(u64::MAX),
+    ),
+    (Radix::Decimal, u64::MAX, b"18446744073709551616", None),
+    (Radix::Decimal, 9, b"", None),
+    (Radix::Decimal, 9, b"1a", None),
+    (Radix::Hexadecimal, 0x7ff, b"7fF", Some(2047)),
+    (Radix::Hexadecimal, 0x7ff, b"800", None),
+    (Radix::Hexadecimal, 0x7ff, b"7g", None),
+];
+
+fn denote(rt: &impl Abort, rows: &[(Radix, u64, &[u8], Option<u64>)]) {
+    for (radix, limit, text, number) in rows {
+        assert_eq!(rt; number_up_to(*radix, *limit, text), *number);
+    }
+}
+
 #[test]
 fn numbers_are_judged_by_their_value(rt: HostRuntime) {
-    let zeros = b"0000000000000000000000000000000000000000256";
-    assert_eq!(rt; number_up_to(Radix::Decimal, 256, zeros), Some(256));
-    assert_eq!(rt; number_up_to(Radix::Decimal, 255, zeros), None);
-    assert_eq!(rt;
-        number_up_to(Radix::Decimal, u64::MAX, b"18446744073709551615"),
-        Some(u64::MAX)
-    );
-    assert_eq!(rt;
-        number_up_to(Radix::Decimal, u64::MAX, b"18446744073709551616"),
-        None
-    );
-    assert_eq!(rt; number_up_to(Radix::Decimal, 9, b""), None);
-    assert_eq!(rt; number_up_to(Radix::Decimal, 9, b"1a"), None);
-    assert_eq!(rt; number_up_to(Radix::Hexadecimal, 0x7ff, b"7fF"), Some(2047));
-    assert_eq!(rt; number_up_to(Radix::Hexadecimal, 0x7ff, b"800"), None);
-    assert_eq!(rt; number_up_to(Radix::Hexadecimal, 0x7ff, b"7g"), None);
+    denote(&rt, &NUMBERS);
 }
 
 /// A byte, and whether each class of this list has it: those for words and digits.
@@ -63,15 +82,34 @@ const BYTES: [(u8, [bool; 3]); 12] = [
     (0xc2, [false, false, false]),
 ];
 
-#[test]
-fn pieces_are_taken_from_the_front(rt: HostRuntime) {
-    for (byte, [word, decimal, hexadecimal]) in BYTES {
-        assert_eq!(rt; Class::WordByte.has(byte), word);
-        assert_eq!(rt; Class::DecimalDigit.has(byte), decimal);
-        assert_eq!(rt; Class::HexadecimalDigit.has(byte), hexadecimal);
+/// The classes of this list that have the byte.
+fn classes_of(byte: u8) -> [bool; 3] {
+    [
+        Class::WordByte.has(byte),
+        Class::DecimalDigit.has(byte),
+        Class::HexadecimalDigit.has(byte),
+    ]
+}
+
+fn belong(rt: &impl Abort, rows: &[(u8, [bool; 3])]) {
+    for (byte, classes) in rows {
+        assert!(rt; classes_of(*byte) == *classes);
     }
+}
+
+#[test]
+fn bytes_belong_to_their_classes(rt: HostRuntime) {
+    belong(&rt, &BYTES);
+}
+
+#[test]
+fn literals_are_taken_from_the_front(rt: HostRuntime) {
     assert!(rt; matches!(after_literal(b"BO_ ", b"BO_ 1"), Some(b"1")));
     assert!(rt; after_literal(b"BO_ ", b"BO_").is_none());
+}
+
+#[test]
+fn fields_and_runs_are_taken_from_the_front(rt: HostRuntime) {
     assert!(rt;
         matches!(
             field_before(Class::DecimalDigit, b"|", b"12|3"),
