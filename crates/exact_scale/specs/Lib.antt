@@ -1,3 +1,4 @@
+pub mod Bytes
 pub mod Buffer
 pub mod Digits
 pub mod Fraction

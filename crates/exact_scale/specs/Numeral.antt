@@ -1,6 +1,7 @@
 -- The form of a decimal text, as numbers are in DBC files: an optional sign, digits with at most one point and at
 -- least one digit, and optionally `e` or `E`, an optional sign and digits; and the fraction that such a text denotes.
 use Rattle.std.specs.Prelude.{◌≡◌, ℕ, ◌+◌, ◌*◌, ◌^◌, ◌<◌, ◌⊎◌, List, [], ◌∷◌, ◌++◌, length, Option, Some, None, ℤ, pos, neg_ℤ}
+use Rattle.exact_scale.specs.Bytes.{plus_sign, minus_sign, decimal_point, small_e, capital_e}
 use Rattle.exact_scale.specs.Digits.{AllDigits, number}
 use Rattle.exact_scale.specs.Fraction.{Fraction, IsLeastDecimal}
 
@@ -12,8 +13,8 @@ pub data Sign : Type 0 where
 
 abbrev pub sign_text : Sign → List ℕ
 sign_text NoSign = []
-sign_text Plus = 43 ∷ []
-sign_text Minus = 45 ∷ []
+sign_text Plus = plus_sign ∷ []
+sign_text Minus = minus_sign ∷ []
 
 -- a number under a sign
 abbrev pub signed : Sign → ℕ → ℤ
@@ -41,7 +42,7 @@ fraction_digits (Some digits) = digits
 
 abbrev pub fraction_text : Option (List ℕ) → List ℕ
 fraction_text None = []
-fraction_text (Some digits) = 46 ∷ digits
+fraction_text (Some digits) = decimal_point ∷ digits
 
 abbrev pub exponent_text : Option Exponent → List ℕ
 exponent_text None = []
@@ -53,7 +54,7 @@ text_of s = sign_text s.sign ++ (s.whole ++ (fraction_text s.fraction ++ exponen
 
 abbrev pub IsValidExponent : Option Exponent → Type 0
 IsValidExponent None = Unit {0}
-IsValidExponent (Some e) = ((e.mark ≡ 101) ⊎ (e.mark ≡ 69)) × AllDigits e.digits × (0 < length e.digits)
+IsValidExponent (Some e) = ((e.mark ≡ small_e) ⊎ (e.mark ≡ capital_e)) × AllDigits e.digits × (0 < length e.digits)
 
 -- digits where digits belong, and at least one before the exponent
 pub record IsValid (s : Numeral) : Type 0 where

@@ -1,5 +1,6 @@
 -- What the reader's steps say to one another: where a text is cut, and numbers that are kept up to a bound.
 use Rattle.std.specs.Prelude.{◌≡◌, ℕ, ◌*◌, ◌^◌, ◌-◌, ◌%◌, ◌<◌, ◌≤◌, min, ◌⊎◌, Bool, true, false, List, [], ◌∷◌, ◌++◌, length, Option, Some, None}
+use Rattle.exact_scale.specs.Bytes.{plus_sign, minus_sign, decimal_point}
 use Rattle.exact_scale.specs.Digits.{IsDigit, AllDigits, number}
 use Rattle.exact_scale.specs.Limits.{most_places, numerator_limit}
 use Rattle.exact_scale.specs.Numeral.{Sign, NoSign, Plus, Minus, sign_text, Exponent, Numeral, fraction_digits, fraction_text, exponent_text, IsValidExponent, IsTextOf, upward, downward, raised, lowered}
@@ -11,11 +12,11 @@ NoDigitFirst (byte ∷ bytes) = IsDigit byte → ⊥
 
 abbrev pub NoPointFirst : List ℕ → Type 0
 NoPointFirst [] = Unit {0}
-NoPointFirst (byte ∷ bytes) = byte ≡ 46 → ⊥
+NoPointFirst (byte ∷ bytes) = byte ≡ decimal_point → ⊥
 
 abbrev pub NoSignFirst : List ℕ → Type 0
 NoSignFirst [] = Unit {0}
-NoSignFirst (byte ∷ bytes) = (byte ≡ 43 → ⊥) × (byte ≡ 45 → ⊥)
+NoSignFirst (byte ∷ bytes) = (byte ≡ plus_sign → ⊥) × (byte ≡ minus_sign → ⊥)
 
 -- where no sign was taken, none is first
 abbrev pub TakesSign : Sign → List ℕ → Type 0
