@@ -75,14 +75,14 @@ fn narrow(parts: &Parts<'_>) -> Option<Decimal>
     match significand.shift(up.saturating_sub(down), down.saturating_sub(up)) {
         None => None,
         Some((size, k)) => Some(Decimal {
-            num: signed(parts.negative, size),
+            num: with_sign(parts.negative, size),
             k,
         }),
     }
 }
 
 /// A numerator under its sign.
-fn signed(negative: bool, size: u64) -> i128
+fn with_sign(negative: bool, size: u64) -> i128
     ensures { result ≡ (if negative then neg_ℤ (pos size) else pos size) }
 {
     let size = i128::from(size);

@@ -19,10 +19,10 @@ pub returns-in-Some-clause-some : goal.returns-in-Some-clause-some
 returns-in-Some-clause-some c = λ text p.
     let parts = c.args.parts.now in
     let s = c.of-significand.ensures.number in
-    let fits : FitsSigned w128 c.signed.result = search rules in
-    let num = c.signed.ensures in
+    let fits : FitsSigned w128 c.with_sign.result = search rules in
+    let num = c.with_sign.ensures in
     let d = parts_denote text parts.whole.now parts.fraction.now parts.negative parts.exponent.raised parts.exponent.lowered c.of-significand.result.size c.of-significand.result.zeros c.in-Some.size c.in-Some.k p s
     (c.in-Some.ensures.some s.short _ _
     (parts_move text parts.whole.now parts.fraction.now parts.negative parts.exponent.raised parts.exponent.lowered c.of-significand.result.size c.of-significand.result.zeros _ _ p s
     (omega arith) (omega arith) c.saturating_sub.ensures c.saturating_sub-2.ensures)) in
-    subst (λ (n : ℤ). Denotes text n c.in-Some.k) (sym (to_z-of_z w128 c.signed.result fits ∙ num)) d
+    subst (λ (n : ℤ). Denotes text n c.in-Some.k) (sym (to_z-of_z w128 c.with_sign.result fits ∙ num)) d
