@@ -224,8 +224,10 @@ fn writes(rt: &(impl Abort + AllocGlobal), rows: &[(i128, u32, &str)]) -> Result
     for (num, k, text) in rows {
         let mut out = Vec::from_slice(rt.alloc(), b"= ")?;
         Exact { num: *num, k: *k }.append(&mut out)?;
-        assert_eq!(rt; &out[..2], b"= ".as_slice());
-        assert_eq!(rt; &out[2..], text.as_bytes(), "{num} over 10^{k}");
+        assert!(rt;
+            out.strip_prefix(b"= ") == Some(text.as_bytes()),
+            "{num} over 10^{k}"
+        );
     }
     Ok(())
 }
@@ -259,40 +261,53 @@ fn assert_scaled(
     Ok(())
 }
 
-#[test]
-fn scales_raw_values(rt: HostRuntime) -> Result<(), Fail> {
-    let widest = "85070591730234615842785221765805113345";
-    assert_scaled(
-        &rt,
+/// A factor, an offset, a raw value and the text of the outcome.
+const SCALED: [(&str, &str, i128, &str); 6] = [
+    (
         "4611686018427387903",
         "0",
         18446744073709551615,
-        widest,
-    )?;
-    assert_scaled(&rt, "1E-005", "-40", 12345, "-39.87655")?;
-    assert_scaled(&rt, "0.25", "0", 4000, "1000")?;
-    assert_scaled(&rt, "0.125", "0", 4968, "621")?;
-    assert_scaled(
-        &rt,
-        "-1",
-        "0.5",
-        -9223372036854775808,
-        "9223372036854775808.5",
-    )?;
-    assert_scaled(&rt, "1", "0", -2, "-2")?;
+        "85070591730234615842785221765805113345",
+    ),
+    ("1E-005", "-40", 12345, "-39.87655"),
+    ("0.25", "0", 4000, "1000"),
+    ("0.125", "0", 4968, "621"),
+    ("-1", "0.5", -9223372036854775808, "9223372036854775808.5"),
+    ("1", "0", -2, "-2"),
+];
 
+/// Each raw value is within the limits, and comes out as this text.
+fn scales(rt: &(impl Abort + AllocGlobal), rows: &[(&str, &str, i128, &str)]) -> Result<(), Fail> {
+    for (factor, offset, raw, want) in rows {
+        let least = -i128::from(LEAST_RAW_SIZE);
+        assert!(rt; least <= *raw && *raw <= i128::from(GREATEST_RAW));
+        assert_scaled(rt, factor, offset, *raw, want)?;
+    }
+    Ok(())
+}
+
+#[test]
+fn scales_raw_values(rt: HostRuntime) -> Result<(), Fail> {
+    scales(&rt, &SCALED)
+}
+
+#[test]
+fn refuses_scales_too_wide_over_one_power(rt: HostRuntime) -> Result<(), Fail> {
     let least = Decimal::read(b"1e-30")?;
     assert_eq!(rt; Scale::new(least, Decimal::read(b"5")?), Err(Wide));
     assert_eq!(rt; Scale::new(Decimal::read(b"5")?, least), Err(Wide));
-    let zero = Scale::new(least, Decimal::read(b"0")?)?;
-    assert_eq!(rt;
-        zero,
-        Scale {
-            factor: 1,
-            offset: 0,
-            k: 30
-        }
-    );
+    Ok(())
+}
+
+#[test]
+fn zero_is_over_each_power(rt: HostRuntime) -> Result<(), Fail> {
+    let zero = Scale::new(Decimal::read(b"1e-30")?, Decimal::read(b"0")?)?;
+    let least = Scale {
+        factor: 1,
+        offset: 0,
+        k: 30,
+    };
+    assert_eq!(rt; zero, least);
     Ok(())
 }
 
@@ -313,18 +328,23 @@ fn values_and_faults_go_to_another_thread() {
     assert_crosses(&Wide);
 }
 
+/// A text is read so.
+fn judges(rt: &impl Abort, text: &[u8], answer: Result<Decimal, DecimalFault>) {
+    assert_eq!(rt; Decimal::read(text), answer);
+}
+
 #[test]
 fn judges_a_million_digits(rt: HostRuntime) -> Result<(), Fail> {
     let mut zeros = vec![in rt.alloc(); b'0'; 1_000_000]?;
     let nines = vec![in rt.alloc(); b'9'; 1_000_000]?;
-    assert_eq!(rt; Decimal::read(&nines), Err(DecimalFault::Wide));
-    assert_eq!(rt; Decimal::read(&zeros), Ok(Decimal { num: 0, k: 0 }));
+    judges(&rt, &nines, Err(DecimalFault::Wide));
+    judges(&rt, &zeros, Ok(Decimal { num: 0, k: 0 }));
     zeros.push(b'7')?;
-    assert_eq!(rt; Decimal::read(&zeros), Ok(Decimal { num: 7, k: 0 }));
+    judges(&rt, &zeros, Ok(Decimal { num: 7, k: 0 }));
     zeros.extend_from_slice(b".5e-")?;
     zeros.extend_from_slice(&nines)?;
-    assert_eq!(rt; Decimal::read(&zeros), Err(DecimalFault::Wide));
+    judges(&rt, &zeros, Err(DecimalFault::Wide));
     zeros.push(b'x')?;
-    assert_eq!(rt; Decimal::read(&zeros), Err(DecimalFault::Form));
+    judges(&rt, &zeros, Err(DecimalFault::Form));
     Ok(())
 }
