@@ -1,10 +1,11 @@
 -- The words of a line: its parts between blanks. Blanks may be before the first word and after the last one, too.
 use Rattle.std.specs.Prelude.{ℕ, ◌==◌, ◌||◌, Bool, true, false, not, List, [], ◌∷◌, filter, if◌then◌else◌}
+use Rattle.byte_forms.specs.Bytes.{tab, space}
 use Rattle.byte_forms.specs.Lines.{onto_first}
 
 -- blanks are the space and the tab
 abbrev pub is_blank : ℕ → Bool
-is_blank b = b == 32 || b == 9
+is_blank b = b == space || b == tab
 
 -- the parts of a line before, between and behind its blanks
 unfoldable pub parts_of : List ℕ → List (List ℕ)
