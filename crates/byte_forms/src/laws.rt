@@ -2,7 +2,7 @@
 
 ghost use Rattle.std.specs.Prelude.{◌≡◌, ◌↔◌, ◌++◌, ◌<◌, ◌≤◌, ◌^◌, ℕ, List, Some, true, length};
 ghost use Rattle.std.specs.List.{list_all};
-ghost use Rattle.byte_forms.specs.declared.class.Class.{Class as Kind};
+ghost use Rattle.byte_forms.specs.declared.class.Class.{Class};
 ghost use Rattle.byte_forms.specs.declared.numerals.Radix.{Radix};
 ghost use Rattle.byte_forms.specs.declared.numerals.Radix.TheVariants as radixes;
 ghost use Rattle.byte_forms.specs.Classes.{is_in};
@@ -13,12 +13,12 @@ ghost use Rattle.byte_forms.specs.Pieces.{after_literal, field_before, is_end_of
 pub fn pieces_are_what_a_text_begins_with()
     ensures literal { (literal bytes rest : List ℕ) → (after_literal literal bytes ≡ Some rest)
         ↔ (bytes ≡ literal ++ rest) }
-    ensures found { (class : Kind) (literal bytes field rest : List ℕ)
+    ensures found { (class : Class) (literal bytes field rest : List ℕ)
         → field_before class literal bytes ≡ Some (field, rest)
         → (bytes ≡ field ++ (literal ++ rest)) × (list_all (is_in class) field ≡ true) }
 
     // A literal that begins with a byte of the class would be taken for the end of the field.
-    ensures there { (class : Kind) (literal field rest : List ℕ) → list_all (is_in class) field ≡ true
+    ensures there { (class : Class) (literal field rest : List ℕ) → list_all (is_in class) field ≡ true
         → is_end_of class literal ≡ true
         → field_before class literal (field ++ (literal ++ rest)) ≡ Some (field, rest) }
 {}
