@@ -1,6 +1,7 @@
 -- Bytes cut at their line feeds: the parts that end in one, without it, and the rest after the last.
 use Rattle.std.specs.Prelude.{ℕ, ◌==◌, Bool, true, false, List, [], ◌∷◌}
 use Rattle.std.specs.List.{list_any}
+use Rattle.byte_forms.specs.Bytes.{line_feed}
 
 pub record Cut : Type 0 where
   pub whole : List (List ℕ)
@@ -17,7 +18,7 @@ cut_before false b c = onto b c.whole c.rest
 
 abbrev pub cut : List ℕ → Cut
 cut [] = record { whole = []; rest = [] }
-cut (b ∷ bs) = cut_before (b == 10) b (cut bs)
+cut (b ∷ bs) = cut_before (b == line_feed) b (cut bs)
 
 abbrev pub has_feed : List ℕ → Bool
-has_feed bytes = list_any (λ b. b == 10) bytes
+has_feed bytes = list_any (λ b. b == line_feed) bytes

@@ -1,4 +1,5 @@
 -- what a line says
+pub mod Bytes
 pub mod Data
 pub mod Line
 -- the lines of a log

@@ -3,6 +3,7 @@
 use Rattle.std.specs.Prelude.{◌≡◌, ◌⊎◌, ℕ, ◌+◌, ◌*◌, ◌^◌, ◌<◌, ◌≤◌, ◌==◌, ◌||◌, Bool, true, false, List, [], ◌∷◌, ◌++◌, length, codes, Option, Some, None, nat_le, if◌then◌else◌}
 use Rattle.std.specs.List.{list_all}
 use Rattle.std.specs.Char.{is_ascii_hexdigit}
+use Rattle.byte_forms.specs.Bytes.{tab, carriage_return, space, digit_zero}
 use Rattle.byte_forms.specs.declared.class.Class.TheVariants as classes
 use Rattle.byte_forms.specs.declared.numerals.Radix.TheVariants as radixes
 use Rattle.byte_forms.specs.Classes.{is_in}
@@ -11,6 +12,7 @@ use Rattle.bench_model.specs.declared.database.Key.{Key}
 use Rattle.candump_log.specs.declared.log_line.LogLine.{LogLine}
 use Rattle.candump_log.specs.declared.log_line.LogLine.TheVariants as line
 use Rattle.candump_log.specs.declared.log_line.Span.{Span}
+use Rattle.candump_log.specs.Bytes.{digit_eight, capital_r, small_r}
 use Rattle.candump_log.specs.Data.{classic_limit, data_limit, EncodesData}
 
 -- the most bytes of a line, its blanks at the end counted and its line feed not
@@ -26,7 +28,7 @@ extended_limit = 0x3fff_ffff
 
 -- a blank of a log: the space, the tab or the carriage return
 abbrev pub is_blank : ℕ → Bool
-is_blank b = b == 32 || (b == 9 || b == 13)
+is_blank b = b == space || (b == tab || b == carriage_return)
 
 abbrev pub AreBlanks : List ℕ → Type 0
 AreBlanks text = (1 ≤ length text) × (list_all is_blank text ≡ true)
@@ -97,7 +99,7 @@ pub record IsFd (body bytes : List ℕ) : Type 0 where
 
 -- a digit 0 to 8, or none
 abbrev pub IsLength : List ℕ → Type 0
-IsLength text = (text ≡ []) ⊎ ((digit : ℕ) × (48 ≤ digit) × (digit ≤ 56) × (text ≡ digit ∷ []))
+IsLength text = (text ≡ []) ⊎ ((digit : ℕ) × (digit_zero ≤ digit) × (digit ≤ digit_eight) × (text ≡ digit ∷ []))
 
 -- a remote frame: `R` or `r`, and maybe a length
 pub record IsRemote (body : List ℕ) : Type 0 where
@@ -105,7 +107,7 @@ pub record IsRemote (body : List ℕ) : Type 0 where
   pub length_digit : List ℕ
   pub code : List ℕ
   pub text : body ≡ letter ∷ (length_digit ++ code)
-  pub letter_is : (letter ≡ 82) ⊎ (letter ≡ 114)
+  pub letter_is : (letter ≡ capital_r) ⊎ (letter ≡ small_r)
   pub length_is : IsLength length_digit
   pub code_is : IsLengthCode code
 

@@ -4,6 +4,7 @@ use Rattle.std.specs.Prelude.{ℕ, zero, suc, ◌+◌, ◌-◌, ◌*◌, ◌==�
 use Rattle.std.specs.Option.{option_map}
 use Rattle.std.specs.Char.{is_ascii_digit, is_ascii_hexdigit}
 use Rattle.std.specs.List.{prefix_len}
+use Rattle.byte_forms.specs.Bytes.{hash, dot, digit_zero, underscore}
 use Rattle.byte_forms.specs.declared.class.Class.TheVariants as classes
 use Rattle.byte_forms.specs.declared.numerals.Radix.TheVariants as radixes
 use Rattle.byte_forms.specs.Classes.{is_in}
@@ -13,6 +14,7 @@ use Rattle.bench_model.specs.declared.database.Key.{Key}
 use Rattle.candump_log.specs.declared.log_line.LogLine.{LogLine}
 use Rattle.candump_log.specs.declared.log_line.LogLine.TheVariants as line
 use Rattle.candump_log.specs.declared.log_line.Span.{Span}
+use Rattle.candump_log.specs.Bytes.{digit_eight, capital_r, small_r}
 use Rattle.candump_log.specs.Data.{classic_limit, data_limit}
 use Rattle.candump_log.specs.Line.{line_limit, standard_limit, extended_limit, is_blank, line_from}
 
@@ -70,7 +72,7 @@ key_prefix bytes = do
 -- the text after a dot, where one is here
 abbrev pub after_dot : List ℕ → List ℕ
 after_dot [] = []
-after_dot (b ∷ bs) = if b == 46 then bs else b ∷ bs
+after_dot (b ∷ bs) = if b == dot then bs else b ∷ bs
 
 -- the byte at the front, before which a dot may be where it is not the first
 unfoldable pub next_byte : Bool → List ℕ → Option (ℕ × List ℕ)
@@ -88,12 +90,12 @@ bytes_prefix (suc limit) first text = bytes_then (bytes_prefix limit false) text
 -- the text after a length digit, and after a length code, where one is here
 abbrev pub after_length : List ℕ → List ℕ
 after_length [] = []
-after_length (b ∷ bs) = if nat_le 48 b && nat_le b 56 then bs else b ∷ bs
+after_length (b ∷ bs) = if nat_le digit_zero b && nat_le b digit_eight then bs else b ∷ bs
 
 abbrev pub after_code : List ℕ → List ℕ
 after_code [] = []
 after_code (b ∷ []) = b ∷ []
-after_code (b ∷ digit ∷ bs) = if b == 95 && is_ascii_hexdigit digit then bs else b ∷ digit ∷ bs
+after_code (b ∷ digit ∷ bs) = if b == underscore && is_ascii_hexdigit digit then bs else b ∷ digit ∷ bs
 
 -- what is behind the first `#`
 abbrev pub fd_prefix : List ℕ → Option (Option (List ℕ) × List ℕ)
@@ -110,8 +112,8 @@ classic_prefix text =
 unfoldable pub body_prefix : List ℕ → Option (Option (List ℕ) × List ℕ)
 body_prefix [] = classic_prefix []
 body_prefix (b ∷ bs) =
-    if b == 35 then fd_prefix bs
-    else (if b == 82 || b == 114 then Some (None, after_code (after_length bs)) else classic_prefix (b ∷ bs))
+    if b == hash then fd_prefix bs
+    else (if b == capital_r || b == small_r then Some (None, after_code (after_length bs)) else classic_prefix (b ∷ bs))
 
 -- the interface's place and the line, where the text is no bad line
 unfoldable pub parts_of : List ℕ → Option (Span × LogLine)

@@ -1,6 +1,7 @@
 -- What the parts of a reader of lines do to the bytes that it holds and to its place in the log.
 use Rattle.std.specs.Prelude.{◌≡◌, ◌⊎◌, ◌↔◌, ℕ, ◌+◌, ◌-◌, ◌*◌, ◌<◌, ◌≤◌, ◌==◌, Bool, true, false, List, [], ◌∷◌, ◌++◌, length, Option, None, IfSome, MatchOption, Result, MatchResult, if◌then◌else◌}
 use Rattle.std.specs.Io.KnownBytes.{prepend_known, append_known}
+use Rattle.byte_forms.specs.Bytes.{line_feed}
 use Rattle.port_io.specs.Causes.{Rose}
 use Rattle.port_io.specs.OtherSide.{SourceState}
 use Rattle.candump_log.specs.declared.log_line.LogLine.TheVariants as line
@@ -43,7 +44,7 @@ pub record GivesWhole (names : List (List ℕ)) (was : List ℕ) (place : Place)
     (now : Place) : Type 0 where
   pub piece : List ℕ
   pub plain : NoFeed piece
-  pub parted : was ≡ piece ++ 10 ∷ held
+  pub parted : was ≡ piece ++ line_feed ∷ held
   pub routed_is : routed ≡ route names place.long piece
   pub now_is : now ≡ next_place place (place.taken - length held)
 
