@@ -6,9 +6,9 @@ use Rattle.candump_log.specs.declared.place.LinesRefused.{LinesRefused}
 use Rattle.candump_log.specs.declared.place.LinesRefused.TheVariants as refused
 use Rattle.candump_log.specs.declared.place.Routed.{Routed}
 use Rattle.candump_log.specs.Line.{KeepsLimits}
+use Rattle.candump_log.specs.LineOf.{line_of}
 use Rattle.candump_log.specs.LinesState.{LinesState}
 use Rattle.candump_log.specs.NextLine.{Advances, Answers, AnswersOn, NextLine, NextOn, IsAtEnd, IsAtLimit, unrouted}
-use Rattle.candump_log.proofs.LineLaws.{line_of-keeps}
 
 -- `next_on` is `next`
 unrouted_err : (r : Result (Option Routed) LinesRefused) → is_err (unrouted r) ≡ is_err r
@@ -56,8 +56,8 @@ ready_gives before now (Ok (Some line)) adv a ready = (refl, adv.unasked (inl re
 ready_gives before now (Ok None) adv a ready = absurd (let no = a.0.was_not_ready in cc)
 ready_gives before now (Err why) adv a ready = absurd (let no = a.0.was_not_ready in cc)
 
--- each line keeps its limits
-pub given_keeps : (before now : LinesState) (r : Result (Option LogLine) LinesRefused) → Answers before r now → IfOk r (λ line. IfSome line KeepsLimits)
-given_keeps before now (Ok (Some line)) a = let P : LogLine → Type 0 = KeepsLimits in subst P (sym a.line_is) (line_of-keeps a.text)
-given_keeps before now (Ok None) a = tt
-given_keeps before now (Err why) a = tt
+-- each line keeps its limits, where each text does
+pub given_keeps : ((text : List ℕ) → KeepsLimits (line_of text)) → (before now : LinesState) (r : Result (Option LogLine) LinesRefused) → Answers before r now → IfOk r (λ line. IfSome line KeepsLimits)
+given_keeps keeps before now (Ok (Some line)) a = let P : LogLine → Type 0 = KeepsLimits in subst P (sym a.line_is) (keeps a.text)
+given_keeps keeps before now (Ok None) a = tt
+given_keeps keeps before now (Err why) a = tt

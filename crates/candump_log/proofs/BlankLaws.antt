@@ -8,9 +8,9 @@ use Rattle.std.proofs.lemmas.List.{take-append-drop, drop_at, length-take}
 use Rattle.std.proofs.lemmas.List.Sums.{prefix_len-le-length}
 use Rattle.byte_forms.specs.declared.class.Class.TheVariants as classes
 use Rattle.byte_forms.specs.Classes.{is_in}
-use Rattle.byte_forms.proofs.RunLaws.{list_all-take_while}
 use Rattle.candump_log.specs.Line.{is_blank, AreBlanks, IsWord, IsTail}
 use Rattle.candump_log.specs.LineOf.{after_blanks, after_word, is_tail}
+use Rattle.candump_log.proofs.ByteLaws.{list_all-take_while}
 
 pub not_true : (b : Bool) → not b ≡ true → b ≡ false
 not_true true h = absurd cc

@@ -9,14 +9,13 @@ use Rattle.std.proofs.lemmas.Bool.{cases_Bool, and_parts, eqb-true, eq-eqb, leb-
 use Rattle.byte_forms.specs.declared.class.Class.TheVariants as classes
 use Rattle.byte_forms.specs.declared.numerals.Radix.TheVariants as radixes
 use Rattle.byte_forms.specs.Classes.{is_in}
-use Rattle.byte_forms.specs.Numerals.{number_up_to}
+use Rattle.byte_forms.specs.Numerals.{number_of, number_up_to}
 use Rattle.byte_forms.specs.Pieces.{field_before}
-use Rattle.byte_forms.proofs.PieceLaws.{bind_some, field_before-append, field_before_takes}
-use Rattle.byte_forms.proofs.NumberLaws.{number_up_to_takes, number_up_to-is}
 use Rattle.bench_model.specs.declared.database.Key.{Key}
 use Rattle.candump_log.specs.Data.{EncodesData}
 use Rattle.candump_log.specs.Line.{standard_limit, extended_limit, IsTail, IsIdentifier, IsLengthCode, IsLength, IsClassic, IsFd, IsRemote, IsBody}
 use Rattle.candump_log.specs.LineOf.{key_of, key_prefix, bytes_prefix, after_length, after_code, fd_prefix, classic_prefix, body_prefix}
+use Rattle.candump_log.proofs.ByteLaws.{PieceLaw, NumberLaw, bind_some}
 use Rattle.candump_log.proofs.BlankLaws.{differs, blank_fails}
 use Rattle.candump_log.proofs.DataLaws.{data_takes, data-encoded, StopsData, tail_stops}
 
@@ -26,13 +25,13 @@ mapped : (f : ℕ → Key) (o : Option ℕ) (key : Key) → option_map f o ≡ S
 mapped f None key e = absurd cc
 mapped f (Some n) key e = (n, refl, cc)
 
-key_of_takes : (digits : List ℕ) (key : Key) → key_of digits ≡ Some key → IsIdentifier digits key
+key_of_takes : (law : NumberLaw) (digits : List ℕ) (key : Key) → key_of digits ≡ Some key → IsIdentifier digits key
 unfolding key_of
-key_of_takes digits key e =
+key_of_takes law digits key e =
     elim (cases_Bool (length digits == 3)) [
       | inl three ↦
           let m = mapped (λ (n : ℕ). record { extended = false; id = n }) (number_up_to radixes.Hexadecimal 2047 digits) key (rw three at e) in
-          let n = number_up_to_takes radixes.Hexadecimal 2047 digits m.0 m.1 in
+          let n = (law.value radixes.Hexadecimal 2047 m.0 digits).0 m.1 in
           let id : m.0 ≡ key.id = ap (λ (k : Key). k.id) m.2 in
           let extended : false ≡ key.extended = ap (λ (k : Key). k.extended) m.2 in
           record { numeral = n.0; id = sym id ∙ n.1; form = inl (eqb-true (length digits) 3 three, sym extended, omega (arith, id, n.2)) }
@@ -40,7 +39,7 @@ key_of_takes digits key e =
           elim (cases_Bool (length digits == 8)) [
             | inl eight ↦
                 let m = mapped (λ (n : ℕ). record { extended = true; id = n }) (number_up_to radixes.Hexadecimal 1073741823 digits) key (rw (other, eight) at e) in
-                let n = number_up_to_takes radixes.Hexadecimal 1073741823 digits m.0 m.1 in
+                let n = (law.value radixes.Hexadecimal 1073741823 m.0 digits).0 m.1 in
                 let id : m.0 ≡ key.id = ap (λ (k : Key). k.id) m.2 in
                 let extended : true ≡ key.extended = ap (λ (k : Key). k.extended) m.2 in
                 record { numeral = n.0; id = sym id ∙ n.1; form = inr (eqb-true (length digits) 8 eight, sym extended, omega (arith, id, n.2)) }
@@ -51,32 +50,32 @@ key_of_takes digits key e =
 key_same : (key : Key) (extended : Bool) (n : ℕ) → key.extended ≡ extended → key.id ≡ n → record { extended = extended; id = n } ≡ key
 key_same key extended n e i = rw (← e, ← i) refl
 
-key_of-is : (digits : List ℕ) (key : Key) → IsIdentifier digits key → key_of digits ≡ Some key
+key_of-is : (law : NumberLaw) (digits : List ℕ) (key : Key) → IsIdentifier digits key → key_of digits ≡ Some key
 unfolding key_of
-key_of-is digits key is = by_form is.form
+key_of-is law digits key is = by_form is.form
   where
     by_form : ((length digits ≡ 3) × (key.extended ≡ false) × (key.id ≤ standard_limit)) ⊎ ((length digits ≡ 8) × (key.extended ≡ true) × (key.id ≤ extended_limit)) →
         cond (eqb (length digits) 3) (option_map (λ (n : ℕ). record { extended = false; id = n }) (number_up_to radixes.Hexadecimal 2047 digits))
         (cond (eqb (length digits) 8) (option_map (λ (n : ℕ). record { extended = true; id = n }) (number_up_to radixes.Hexadecimal 1073741823 digits)) None)
         ≡ Some key
     by_form (inl f) =
-        let n = number_up_to-is radixes.Hexadecimal 2047 digits is.numeral (omega (arith, is.id, f.2)) in
+        let n = (law.value radixes.Hexadecimal 2047 (number_of radixes.Hexadecimal digits) digits).1 (is.numeral, refl, omega (arith, is.id, f.2)) in
         rw (eq-eqb (length digits) 3 f.0, n) (ap (λ (k : Key). Some k) (key_same key false _ f.1 is.id))
     by_form (inr f) =
-        let n = number_up_to-is radixes.Hexadecimal 1073741823 digits is.numeral (omega (arith, is.id, f.2)) in
+        let n = (law.value radixes.Hexadecimal 1073741823 (number_of radixes.Hexadecimal digits) digits).1 (is.numeral, refl, omega (arith, is.id, f.2)) in
         let eight = f.0 in
         rw (eight, n) (ap (λ (k : Key). Some k) (key_same key true _ f.1 is.id))
 
-pub key_prefix_takes : (bytes rest : List ℕ) (key : Key) → key_prefix bytes ≡ Some (key, rest) → (id : List ℕ) × IsIdentifier id key × (bytes ≡ id ++ (codes "#" ++ rest))
+pub key_prefix_takes : (pieces : PieceLaw) (numbers : NumberLaw) (bytes rest : List ℕ) (key : Key) → key_prefix bytes ≡ Some (key, rest) → (id : List ℕ) × IsIdentifier id key × (bytes ≡ id ++ (codes "#" ++ rest))
 unfolding key_prefix
-key_prefix_takes bytes rest key e =
+key_prefix_takes pieces numbers bytes rest key e =
     let f = bind_some (field_before classes.HexadecimalDigit (codes "#") bytes) _ _ e in
     let k = bind_some (key_of f.0.0) _ _ f.2 in
-    let field = field_before_takes classes.HexadecimalDigit (codes "#") bytes f.0.0 f.0.1 f.1 in
+    let field = pieces.found classes.HexadecimalDigit (codes "#") bytes f.0.0 f.0.1 f.1 in
     let same : k.0 ≡ key = first (k.0, f.0.1) (key, rest) k.2 in
     let behind : f.0.1 ≡ rest = second (k.0, f.0.1) (key, rest) k.2 in
     let P : Key → Type 0 = IsIdentifier f.0.0 in
-    (f.0.0, subst P same (key_of_takes f.0.0 k.0 k.1), field.0 ∙ ap (λ (r : List ℕ). f.0.0 ++ (codes "#" ++ r)) behind)
+    (f.0.0, subst P same (key_of_takes numbers f.0.0 k.0 k.1), field.0 ∙ ap (λ (r : List ℕ). f.0.0 ++ (codes "#" ++ r)) behind)
   where
     first : (x y : Key × List ℕ) → Some x ≡ Some y → x.0 ≡ y.0
     first x y e = let same : x ≡ y = cc in ap (λ (p : Key × List ℕ). p.0) same
@@ -84,11 +83,11 @@ key_prefix_takes bytes rest key e =
     second : (x y : Key × List ℕ) → Some x ≡ Some y → x.1 ≡ y.1
     second x y e = let same : x ≡ y = cc in ap (λ (p : Key × List ℕ). p.1) same
 
-pub key_prefix-append : (id rest : List ℕ) (key : Key) → IsIdentifier id key → key_prefix (id ++ (codes "#" ++ rest)) ≡ Some (key, rest)
+pub key_prefix-append : (pieces : PieceLaw) (numbers : NumberLaw) (id rest : List ℕ) (key : Key) → IsIdentifier id key → key_prefix (id ++ (codes "#" ++ rest)) ≡ Some (key, rest)
 unfolding key_prefix
-key_prefix-append id rest key is =
+key_prefix-append pieces numbers id rest key is =
     let all : list_all (is_in classes.HexadecimalDigit) id ≡ true = (and_parts _ (list_all (is_in classes.HexadecimalDigit) id) is.numeral).1 in
-    rw (field_before-append classes.HexadecimalDigit (codes "#") id rest all refl, key_of-is id key is) refl
+    rw (pieces.there classes.HexadecimalDigit (codes "#") id rest all refl, key_of-is numbers id key is) refl
 
 -- ---- what may be behind the data
 

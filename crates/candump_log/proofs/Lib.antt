@@ -1,3 +1,4 @@
+pub mod ByteLaws
 pub mod BlankLaws
 pub mod StampLaws
 pub mod DataLaws

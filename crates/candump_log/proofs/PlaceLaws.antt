@@ -15,7 +15,7 @@ use Rattle.candump_log.specs.declared.log_line.Span.{Span}
 use Rattle.candump_log.specs.Line.{prefix_text, behind_text, IsLine, IsInterface}
 use Rattle.candump_log.specs.LineOf.{interface_of}
 use Rattle.candump_log.specs.Routing.{name_place, place_of, HasInterface, IsFirstName, IsNoName}
-use Rattle.candump_log.proofs.LineLaws.{span_of, InterfaceAt, interface_of-is, interface_of-one, no_interface_exactly}
+use Rattle.candump_log.proofs.LineLaws.{span_of, InterfaceAt, IsExact, interface-at}
 use Rattle.candump_log.proofs.RoutingLaws.{first_here, none_here}
 
 -- ---- the first name
@@ -83,21 +83,21 @@ word_of : (text : List ℕ) (span : Span) → IsInterface text span → HasInter
 word_of text span is =
     (is.pieces, is.line, is.encodes, sym (word_at (prefix_text is.pieces) is.pieces.interface (behind_text is.pieces) text span.at span.end is.encodes.parted is.at is.end))
 
-has_place : (names : List (List ℕ)) (text word : List ℕ) → HasInterface text word → place_of names text ≡ name_place names word
+has_place : (names : List (List ℕ)) (text word : List ℕ) → IsExact text → HasInterface text word → place_of names text ≡ name_place names word
 unfolding place_of
-has_place names text word has =
+has_place names text word exact has =
     let p = has.0 in
     let span = span_of p in
-    let found = interface_of-one text span (record { pieces = p; line = has.1; encodes = has.2; at = refl; end = refl }) in
+    let found = (exact.0 span).1 (record { pieces = p; line = has.1; encodes = has.2; at = refl; end = refl }) in
     let same = word_at (prefix_text p) p.interface (behind_text p) text span.at span.end has.2.parted refl refl ∙ has.3 in
     rw found (ap (name_place names) same)
 
-bad_place : (names : List (List ℕ)) (text : List ℕ) → IsLine text line.Bad → place_of names text ≡ None
+bad_place : (names : List (List ℕ)) (text : List ℕ) → IsExact text → IsLine text line.Bad → place_of names text ≡ None
 unfolding place_of
-bad_place names text bad = rw ((no_interface_exactly text).1 bad) refl
+bad_place names text exact bad = rw (exact.1.1 bad) refl
 
-bad_or_word : (text : List ℕ) → IsLine text line.Bad ⊎ ((word : List ℕ) × HasInterface text word)
-bad_or_word text = by_place (interface_of text) (interface_of-is text)
+bad_or_word : (text : List ℕ) → IsExact text → IsLine text line.Bad ⊎ ((word : List ℕ) × HasInterface text word)
+bad_or_word text exact = by_place (interface_of text) (interface-at text exact)
   where
     by_place : (o : Option Span) → InterfaceAt text o → IsLine text line.Bad ⊎ ((word : List ℕ) × HasInterface text word)
     by_place None at = inl at
@@ -105,23 +105,23 @@ bad_or_word text = by_place (interface_of text) (interface_of-is text)
 
 -- ---- the place
 
-pub place_some : (names : List (List ℕ)) (text : List ℕ) (place : ℕ) → (place_of names text ≡ Some place) ↔ ((word : List ℕ) × HasInterface text word × IsFirstName names word place)
-place_some names text place = (
-  λ e. by_word (bad_or_word text) e,
-  λ found. has_place names text found.0 found.1 ∙ first_found names found.0 place found.2,
+pub place_some : (names : List (List ℕ)) (text : List ℕ) (place : ℕ) → IsExact text → (place_of names text ≡ Some place) ↔ ((word : List ℕ) × HasInterface text word × IsFirstName names word place)
+place_some names text place exact = (
+  λ e. by_word (bad_or_word text exact) e,
+  λ found. has_place names text found.0 exact found.1 ∙ first_found names found.0 place found.2,
 )
   where
     by_word : IsLine text line.Bad ⊎ ((word : List ℕ) × HasInterface text word) → place_of names text ≡ Some place → (word : List ℕ) × HasInterface text word × IsFirstName names word place
-    by_word (inl bad) e = absurd (none-some place (sym (bad_place names text bad) ∙ e))
-    by_word (inr has) e = (has.0, has.1, first_is names has.0 place (sym (has_place names text has.0 has.1) ∙ e))
+    by_word (inl bad) e = absurd (none-some place (sym (bad_place names text exact bad) ∙ e))
+    by_word (inr has) e = (has.0, has.1, first_is names has.0 place (sym (has_place names text has.0 exact has.1) ∙ e))
 
-pub place_none : (names : List (List ℕ)) (text : List ℕ) → (place_of names text ≡ None) ↔ (IsLine text line.Bad ⊎ ((word : List ℕ) × HasInterface text word × IsNoName names word))
-place_none names text = (λ e. by_word (bad_or_word text) e, no_place)
+pub place_none : (names : List (List ℕ)) (text : List ℕ) → IsExact text → (place_of names text ≡ None) ↔ (IsLine text line.Bad ⊎ ((word : List ℕ) × HasInterface text word × IsNoName names word))
+place_none names text exact = (λ e. by_word (bad_or_word text exact) e, no_place)
   where
     by_word : IsLine text line.Bad ⊎ ((word : List ℕ) × HasInterface text word) → place_of names text ≡ None → IsLine text line.Bad ⊎ ((word : List ℕ) × HasInterface text word × IsNoName names word)
     by_word (inl bad) e = inl bad
-    by_word (inr has) e = inr (has.0, has.1, none_is names has.0 (sym (has_place names text has.0 has.1) ∙ e))
+    by_word (inr has) e = inr (has.0, has.1, none_is names has.0 (sym (has_place names text has.0 exact has.1) ∙ e))
 
     no_place : IsLine text line.Bad ⊎ ((word : List ℕ) × HasInterface text word × IsNoName names word) → place_of names text ≡ None
-    no_place (inl bad) = bad_place names text bad
-    no_place (inr has) = has_place names text has.0 has.1 ∙ none_found names has.0 has.2
+    no_place (inl bad) = bad_place names text exact bad
+    no_place (inr has) = has_place names text has.0 exact has.1 ∙ none_found names has.0 has.2

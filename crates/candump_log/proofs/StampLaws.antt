@@ -10,12 +10,10 @@ use Rattle.std.proofs.Math.Nat.{one-le-pow}
 use Rattle.std.proofs.lemmas.Int.Digits.{digits_value_more}
 use Rattle.byte_forms.specs.declared.numerals.Radix.TheVariants as radixes
 use Rattle.byte_forms.specs.Numerals.{number_of, is_numeral}
-use Rattle.byte_forms.proofs.RunLaws.{list_all_from, list_all-take_while}
-use Rattle.byte_forms.proofs.DigitLaws.{number_of-below}
 use Rattle.byte_forms.specs.Pieces.{after_literal}
-use Rattle.byte_forms.proofs.PieceLaws.{bind_some, after_literal_takes, after_literal-append}
 use Rattle.candump_log.specs.Line.{AreDigits}
 use Rattle.candump_log.specs.LineOf.{digits_prefix, number_before, stamp_prefix}
+use Rattle.candump_log.proofs.ByteLaws.{LiteralLaw, CountLaw, bind_some, list_all_from, list_all-take_while}
 use Rattle.candump_log.proofs.BlankLaws.{StopsAt, prefix_len-before}
 
 -- this many digits are at the front at least
@@ -31,15 +29,15 @@ all_to bytes i within digits =
 pub numeral_of : (text : List ℕ) → 0 < length text → list_all is_ascii_digit text ≡ true → is_numeral radixes.Decimal text ≡ true
 numeral_of text some all = let t = lt-ltb 0 (length text) some in rw (all, t) refl
 
-below_all : (text : List ℕ) (k : ℕ) → list_all is_ascii_digit text ≡ true → length text ≤ k → number_of radixes.Decimal text < 10 ^ k
-below_all [] k all short = one-le-pow k 10 (omega arith)
-below_all (b ∷ bs) k all short = number_of-below (b ∷ bs) k (numeral_of (b ∷ bs) (omega arith) all) short
+below_all : (law : CountLaw) (text : List ℕ) (k : ℕ) → list_all is_ascii_digit text ≡ true → length text ≤ k → number_of radixes.Decimal text < 10 ^ k
+below_all law [] k all short = one-le-pow k 10 (omega arith)
+below_all law (b ∷ bs) k all short = law (b ∷ bs) k (numeral_of (b ∷ bs) (omega arith) all) short
 
 -- the number of so many digits
-pub value-below : (bytes : List ℕ) (i k value : ℕ) → i ≤ length bytes → i ≤ k → DigitsTo bytes i → value ≡ number_of radixes.Decimal (take i bytes) → value < 10 ^ k
-value-below bytes i k value within few digits is =
+pub value-below : (law : CountLaw) (bytes : List ℕ) (i k value : ℕ) → i ≤ length bytes → i ≤ k → DigitsTo bytes i → value ≡ number_of radixes.Decimal (take i bytes) → value < 10 ^ k
+value-below law bytes i k value within few digits is =
     let n : length (take i bytes) ≡ i = omega (arith, length-take {A = ℕ}) in
-    rw is (below_all (take i bytes) k (all_to bytes i within digits) (omega arith))
+    rw is (below_all law (take i bytes) k (all_to bytes i within digits) (omega arith))
 
 digit_value-is : (b : ℕ) → is_ascii_digit b ≡ true → digit_value b ≡ b - 48
 digit_value-is b digit = grind (arith, common_steps)
@@ -80,8 +78,8 @@ digits_too_many most bytes within digits last =
     all_most most bytes digits last n few = below_more _ _ digits last n (omega arith)
 
 -- what follows a literal is no longer than the whole
-pub after_literal-shorter : (literal bytes rest : List ℕ) → Some rest ≡ after_literal literal bytes → length rest ≤ length bytes
-after_literal-shorter literal bytes rest e = omega (arith, ap length (after_literal_takes literal bytes rest (sym e)), length-append literal rest)
+pub after_literal-shorter : (law : LiteralLaw) (literal bytes rest : List ℕ) → Some rest ≡ after_literal literal bytes → length rest ≤ length bytes
+after_literal-shorter law literal bytes rest e = omega (arith, ap length ((law literal bytes rest).0 (sym e)), length-append literal rest)
 
 -- the number of these digits, which nothing of their kind follows
 record IsDigits (least most : ℕ) (digits : List ℕ) (n : ℕ) : Type 0 where
@@ -107,10 +105,10 @@ digits_prefix_takes most bytes d e =
     let count : n ≡ d.0 = ap (λ (x : ℕ × ℕ). x.0) test.1 in
     (omega (arith, leb-true n most test.0, count), sym count, sym (ap (λ (x : ℕ × ℕ). x.1) test.1))
 
-number_before_takes : (least most : ℕ) (literal bytes rest : List ℕ) (n : ℕ) → number_before least most literal bytes ≡ Some (n, rest) →
+number_before_takes : (law : LiteralLaw) (least most : ℕ) (literal bytes rest : List ℕ) (n : ℕ) → number_before least most literal bytes ≡ Some (n, rest) →
     (digits : List ℕ) × IsDigits least most digits n × (bytes ≡ digits ++ (literal ++ rest))
 unfolding number_before
-number_before_takes least most literal bytes rest n e =
+number_before_takes law least most literal bytes rest n e =
     let d = bind_some (digits_prefix most bytes) _ _ e in
     let prefix = digits_prefix_takes most bytes d.0 d.1 in
     let l = bind_some (after_literal literal (drop d.0.0 bytes)) _ _ d.2 in
@@ -122,7 +120,7 @@ number_before_takes least most literal bytes rest n e =
     let behind : l.0 ≡ rest = ap (λ (x : ℕ × List ℕ). x.1) test.1 in
     let low : least ≤ d.0.0 = leb-true least d.0.0 test.0 in
     let whole : take k bytes ++ drop k bytes ≡ bytes = take-append-drop k bytes in
-    let after : drop k bytes ≡ literal ++ rest = ap (λ (m : ℕ). drop m bytes) (sym prefix.1) ∙ after_literal_takes literal (drop d.0.0 bytes) l.0 l.1 ∙ ap (λ (r : List ℕ). literal ++ r) behind in (
+    let after : drop k bytes ≡ literal ++ rest = ap (λ (m : ℕ). drop m bytes) (sym prefix.1) ∙ (law literal (drop d.0.0 bytes) l.0).0 l.1 ∙ ap (λ (r : List ℕ). literal ++ r) behind in (
       take k bytes,
       record {
         all = list_all-take_while is_ascii_digit bytes;
@@ -133,16 +131,16 @@ number_before_takes least most literal bytes rest n e =
       sym whole ∙ ap (λ (r : List ℕ). take k bytes ++ r) after,
     )
 
-number_before-append : (least most : ℕ) (literal digits rest : List ℕ) (n : ℕ) → IsDigits least most digits n → StopsAt is_ascii_digit (literal ++ rest) →
+number_before-append : (law : LiteralLaw) (least most : ℕ) (literal digits rest : List ℕ) (n : ℕ) → IsDigits least most digits n → StopsAt is_ascii_digit (literal ++ rest) →
     number_before least most literal (digits ++ (literal ++ rest)) ≡ Some (n, rest)
 unfolding number_before digits_prefix
-number_before-append least most literal digits rest n is stop =
+number_before-append law least most literal digits rest n is stop =
     let k : prefix_len is_ascii_digit (digits ++ (literal ++ rest)) ≡ length digits = prefix_len-before is_ascii_digit digits (literal ++ rest) is.all stop in
     let few : leb (length digits) most ≡ true = le-leb (length digits) most is.most_is in
     let low : leb least (length digits) ≡ true = le-leb least (length digits) is.least_is in
     let prefix : take (length digits) (digits ++ (literal ++ rest)) ≡ digits = take_at digits (literal ++ rest) (length digits) refl in
     let behind : drop (length digits) (digits ++ (literal ++ rest)) ≡ literal ++ rest = drop_at digits (literal ++ rest) (length digits) refl in
-    let after : after_literal literal (literal ++ rest) ≡ Some rest = after_literal-append literal rest in
+    let after : after_literal literal (literal ++ rest) ≡ Some rest = (law literal (literal ++ rest) rest).1 refl in
     rw (k, few, prefix, behind, after, low) (ap (λ (m : ℕ). Some (m, rest)) (sym is.value))
 
 are_digits : (least most : ℕ) (digits : List ℕ) (n : ℕ) → 1 ≤ least → IsDigits least most digits n → AreDigits least most digits
@@ -162,17 +160,17 @@ pub record IsStamp (bytes seconds micros : List ℕ) (n : ℕ) (rest : List ℕ)
   pub micros_are : AreDigits 6 6 micros
   pub value : n ≡ number_of radixes.Decimal seconds * 1000000 + number_of radixes.Decimal micros
 
-pub stamp_prefix_takes : (bytes rest : List ℕ) (n : ℕ) → stamp_prefix bytes ≡ Some (n, rest) → (seconds : List ℕ) × (micros : List ℕ) × IsStamp bytes seconds micros n rest
+pub stamp_prefix_takes : (law : LiteralLaw) (bytes rest : List ℕ) (n : ℕ) → stamp_prefix bytes ≡ Some (n, rest) → (seconds : List ℕ) × (micros : List ℕ) × IsStamp bytes seconds micros n rest
 unfolding stamp_prefix
-stamp_prefix_takes bytes rest n e =
+stamp_prefix_takes law bytes rest n e =
     let o = bind_some (after_literal (codes "(") bytes) _ _ e in
     let s = bind_some (number_before 1 12 (codes ".") o.0) _ _ o.2 in
     let m = bind_some (number_before 6 6 (codes ")") s.0.1) _ _ s.2 in
-    let seconds = number_before_takes 1 12 (codes ".") o.0 s.0.1 s.0.0 s.1 in
-    let micros = number_before_takes 6 6 (codes ")") s.0.1 m.0.1 m.0.0 m.1 in
+    let seconds = number_before_takes law 1 12 (codes ".") o.0 s.0.1 s.0.0 s.1 in
+    let micros = number_before_takes law 6 6 (codes ")") s.0.1 m.0.1 m.0.0 m.1 in
     let value : s.0.0 * 1000000 + m.0.0 ≡ n = some_first _ _ m.2 in
     let behind : m.0.1 ≡ rest = some_second _ _ m.2 in
-    let opened : bytes ≡ codes "(" ++ o.0 = after_literal_takes (codes "(") bytes o.0 o.1 in (
+    let opened : bytes ≡ codes "(" ++ o.0 = (law (codes "(") bytes o.0).0 o.1 in (
       seconds.0,
       micros.0,
       record {
@@ -193,13 +191,13 @@ stamp_prefix_takes bytes rest n e =
     same_stamp : (s m a b : ℕ) → s ≡ a → m ≡ b → s * 1000000 + m ≡ a * 1000000 + b
     same_stamp s m a b e f = omega arith
 
-pub stamp_prefix-text : (seconds micros rest : List ℕ) → AreDigits 1 12 seconds → AreDigits 6 6 micros →
+pub stamp_prefix-text : (law : LiteralLaw) (seconds micros rest : List ℕ) → AreDigits 1 12 seconds → AreDigits 6 6 micros →
     stamp_prefix (stamp_text seconds micros rest) ≡ Some (number_of radixes.Decimal seconds * 1000000 + number_of radixes.Decimal micros, rest)
 unfolding stamp_prefix
-stamp_prefix-text seconds micros rest s m =
+stamp_prefix-text law seconds micros rest s m =
     rw (
-      after_literal-append (codes "(") (seconds ++ (codes "." ++ (micros ++ (codes ")" ++ rest)))),
-      number_before-append 1 12 (codes ".") seconds (micros ++ (codes ")" ++ rest)) _ (is_digits 1 12 seconds s) refl,
-      number_before-append 6 6 (codes ")") micros rest _ (is_digits 6 6 micros m) refl,
+      (law (codes "(") (codes "(" ++ (seconds ++ (codes "." ++ (micros ++ (codes ")" ++ rest))))) (seconds ++ (codes "." ++ (micros ++ (codes ")" ++ rest))))).1 refl,
+      number_before-append law 1 12 (codes ".") seconds (micros ++ (codes ")" ++ rest)) _ (is_digits 1 12 seconds s) refl,
+      number_before-append law 6 6 (codes ")") micros rest _ (is_digits 6 6 micros m) refl,
     )
     refl

@@ -1,4 +1,4 @@
-//! Laws about the definitions that the contracts cite. They have no code.
+//! Laws about the definitions that the contracts cite. They have no code of their own, but rest on laws of byte_forms.
 ghost use Rattle.std.specs.Prelude.{◌≡◌, ◌⊎◌, ◌++◌, ◌↔◌, List, [], ◌∷◌, ℕ, true, false, Some, None, Option};
 ghost use Rattle.std.specs.Prelude.{IfSome};
 ghost use Rattle.std.specs.Prelude.{Result, Ok, Err};
@@ -19,6 +19,8 @@ ghost use Rattle.candump_log.specs.NextLine.{NextLine, NextOn, HasEnded, HasStop
 ghost use Rattle.candump_log.specs.NextLine.{IsAtEnd, IsAtLimit, unrouted};
 ghost use Rattle.candump_log.specs.Reads.{Reads};
 
+use byte_forms::{a_number_is_that_of_its_digits, pieces_are_what_a_text_begins_with};
+
 /// Each text says one thing as a line of a log, within its limits, and its interface is at one place, at
 /// none in a bad line: what is read piece by piece.
 pub fn one_line()
@@ -28,7 +30,10 @@ pub fn one_line()
     ensures interface { (text : List ℕ) (place : Place) → (interface_of text ≡ Some place)
         ↔ IsInterface text place }
     ensures no_interface { (text : List ℕ) → (interface_of text ≡ None) ↔ IsLine text Bad }
-{}
+{
+    pieces_are_what_a_text_begins_with();
+    a_number_is_that_of_its_digits();
+}
 
 /// The place of a line among names is that of the first name equal to its interface, and there is none exactly
 /// for a bad line and where no name is equal.
@@ -37,7 +42,9 @@ pub fn place_among_names()
         ↔ ((word : List ℕ) × HasInterface text word × IsFirstName names word place) }
     ensures none { (names : List (List ℕ)) (text : List ℕ) → (place_of names text ≡ None)
         ↔ (IsLine text Bad ⊎ ((word : List ℕ) × HasInterface text word × IsNoName names word)) }
-{}
+{
+    one_line();
+}
 
 /// Bytes are their whole lines, each with its line feed, and a rest without one, which is the last of all
 /// lines where it is not empty.

@@ -5,6 +5,7 @@ ghost use Rattle.candump_log.specs.LinesState.{source_state, fresh, log_of, log_
 ghost use Rattle.candump_log.specs.NextLine.{NextLine, NextOn, IsPrefix, IsAtEnd, IsAtLimit};
 
 use crate::held::Held;
+use crate::laws::one_line;
 use crate::log_line::LogLine;
 use crate::place::{LinesRefused, Place, Routed};
 use crate::steps::{fetch, is_ready, let_go, take_last, take_whole};
@@ -107,6 +108,7 @@ impl<S: Source> Lines<S> {
             × (self.new.source ≡ self.old.source) }
         ensures limits { IfOk result (λ line. IfSome line KeepsLimits) }
     {
+        one_line();
         match self.next_on(&[])? {
             Some(routed) => Ok(Some(routed.line)),
             None => Ok(None),

@@ -5,6 +5,7 @@ ghost use Rattle.candump_log.specs.LineOf.{parts_of, read_line, line_of, interfa
 
 use crate::blanks::{after_blanks, after_word, is_tail};
 use crate::frame::{body_prefix, key_prefix};
+use crate::laws::one_line;
 use crate::payload::Payload;
 use crate::stamp::stamp_prefix;
 use bench_model::Key;
@@ -117,6 +118,7 @@ pub fn line(bytes: &[u8]) -> LogLine
     ensures says { IsLine bytes.now result }
     ensures limits { KeepsLimits result }
 {
+    one_line();
     match read_line(bytes) {
         Some((_, line)) => line,
         None => LogLine::Bad,
@@ -131,6 +133,7 @@ pub fn interface(bytes: &[u8]) -> Option<Span>
     ensures place { IfSome result (IsInterface bytes.now) }
     ensures within { IfSome result (λ span. (span.at < span.end) × (span.end ≤ length bytes.now)) }
 {
+    one_line();
     let (span, _) = read_line(bytes)?;
     Some(span)
 }

@@ -3,7 +3,9 @@ ghost use Rattle.std.specs.Prelude.{◌≡◌, ◌+◌, ◌*◌, ◌<◌, ◌≤
 ghost use Rattle.byte_forms.specs.Pieces.{value_view};
 ghost use Rattle.candump_log.specs.LineOf.{digits_prefix, number_before, stamp_prefix};
 
-use byte_forms::after_literal;
+use byte_forms::{
+    a_number_is_that_of_its_digits, after_literal, pieces_are_what_a_text_begins_with,
+};
 
 /// The decimal digits at the front, where they are not more than `most`: how many, and their number.
 #[inline(always)]
@@ -13,6 +15,7 @@ fn digits_prefix(most: usize, bytes: &[u8]) -> Option<(usize, u64)>
     ensures within { IfSome result (λ digits. digits.0 ≤ length bytes.now) }
     ensures below { IfSome result (λ digits. digits.1 < 10 ^ 12) }
 {
+    a_number_is_that_of_its_digits();
     let mut value = 0u64;
     for (i, byte) in bytes.iter().enumerate() {
         if !byte.is_ascii_digit() {
@@ -40,6 +43,7 @@ fn number_before<'a>(
     ensures within { IfSome result (λ found. length found.1.now ≤ length bytes.now) }
     ensures below { IfSome result (λ found. found.0 < 10 ^ 12) }
 {
+    pieces_are_what_a_text_begins_with();
     let (count, value) = digits_prefix(most, bytes)?;
     let rest = after_literal(literal, &bytes[count..])?;
     if count < least {
@@ -55,6 +59,7 @@ pub(crate) fn stamp_prefix(bytes: &[u8]) -> Option<(u64, &[u8])>
     ensures value { value_view result ≡ stamp_prefix bytes.now }
     ensures within { IfSome result (λ found. length found.1.now ≤ length bytes.now) }
 {
+    pieces_are_what_a_text_begins_with();
     let opened = after_literal(b"(", bytes)?;
     let (seconds, rest) = number_before(1, 12, b".", opened)?;
     let (micros, rest) = number_before(6, 6, b")", rest)?;

@@ -9,7 +9,7 @@ returns-then-not-is_ascii_digit-clause-value c =
 
 pub returns-then-not-is_ascii_digit-clause-below : goal.returns-then-not-is_ascii_digit-clause-below
 returns-then-not-is_ascii_digit-clause-below c =
-    value-below c.args.bytes.now c.loop-i.i 12 c.loop-i.value (omega arith) (omega (arith, c.loop-i.invariant.few)) c.loop-i.invariant.digits c.loop-i.invariant.value_is
+    value-below c.a_number_is_that_of_its_digits.ensures.below c.args.bytes.now c.loop-i.i 12 c.loop-i.value (omega arith) (omega (arith, c.loop-i.invariant.few)) c.loop-i.invariant.digits c.loop-i.invariant.value_is
 
 pub returns-then-i-most-clause-value : goal.returns-then-i-most-clause-value
 returns-then-i-most-clause-value c =
@@ -19,12 +19,12 @@ returns-then-i-most-clause-value c =
 
 pub overflow_mul-value : goal.overflow_mul-value
 overflow_mul-value c =
-    let b : c.loop-i.value < 10 ^ 12 = value-below c.args.bytes.now c.loop-i.i 12 c.loop-i.value (omega arith) (omega (arith, c.loop-i.invariant.few)) c.loop-i.invariant.digits c.loop-i.invariant.value_is in
+    let b : c.loop-i.value < 10 ^ 12 = value-below c.a_number_is_that_of_its_digits.ensures.below c.args.bytes.now c.loop-i.i 12 c.loop-i.value (omega arith) (omega (arith, c.loop-i.invariant.few)) c.loop-i.invariant.digits c.loop-i.invariant.value_is in
     omega arith
 
 pub overflow_add-value : goal.overflow_add-value
 overflow_add-value c =
-    let b : c.loop-i.value < 10 ^ 12 = value-below c.args.bytes.now c.loop-i.i 12 c.loop-i.value (omega arith) (omega (arith, c.loop-i.invariant.few)) c.loop-i.invariant.digits c.loop-i.invariant.value_is in
+    let b : c.loop-i.value < 10 ^ 12 = value-below c.a_number_is_that_of_its_digits.ensures.below c.args.bytes.now c.loop-i.i 12 c.loop-i.value (omega arith) (omega (arith, c.loop-i.invariant.few)) c.loop-i.invariant.digits c.loop-i.invariant.value_is in
     omega (arith, c.from.ensures)
 
 pub loop-i-preserved : goal.loop-i-preserved
@@ -42,4 +42,4 @@ returns-clause-value c =
 
 pub returns-clause-below : goal.returns-clause-below
 returns-clause-below c =
-    value-below c.args.bytes.now c.loop-i.i 12 c.loop-i.value (omega arith) (omega (arith, c.loop-i.invariant.few)) c.loop-i.invariant.digits c.loop-i.invariant.value_is
+    value-below c.a_number_is_that_of_its_digits.ensures.below c.args.bytes.now c.loop-i.i 12 c.loop-i.value (omega arith) (omega (arith, c.loop-i.invariant.few)) c.loop-i.invariant.digits c.loop-i.invariant.value_is

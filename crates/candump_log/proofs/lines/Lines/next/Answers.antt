@@ -5,4 +5,4 @@ use Rattle.candump_log.proofs.lines.Lines.next.Goals as goal
 pub returns-in-Some-clause-limits : goal.returns-in-Some-clause-limits
 returns-in-Some-clause-limits g c =
     let answer = rw c.in-Some.is at c.in_ok-routed.ensures.answer in
-    given_keeps _ _ (Ok (Some c.in-Some.routed.line)) answer.0
+    given_keeps c.one_line.ensures.limits _ _ (Ok (Some c.in-Some.routed.line)) answer.0
