@@ -71,17 +71,25 @@ fn each_form_says_what_it_is(rt: HostRuntime) {
     assert_lengths(&rt);
 }
 
+/// Texts, and where their interfaces are.
+const INTERFACES: [(&[u8], Option<Span>); 3] = [
+    (b"(1.000000) can0 100#", Some(Span { at: 11, end: 15 })),
+    (
+        b"(12.000000)\t \tvcan12\r100#R x",
+        Some(Span { at: 14, end: 20 }),
+    ),
+    (b"(1.000000) can0 100", None),
+];
+
+fn assert_interfaces(rt: &impl Abort, rows: &[(&[u8], Option<Span>)]) {
+    for (text, span) in rows {
+        assert_eq!(rt; interface(text), *span);
+    }
+}
+
 #[test]
 fn the_interface_is_the_word_behind_the_stamp(rt: HostRuntime) {
-    assert_eq!(rt;
-        interface(b"(1.000000) can0 100#"),
-        Some(Span { at: 11, end: 15 })
-    );
-    assert_eq!(rt;
-        interface(b"(12.000000)\t \tvcan12\r100#R x"),
-        Some(Span { at: 14, end: 20 })
-    );
-    assert_eq!(rt; interface(b"(1.000000) can0 100"), None);
+    assert_interfaces(&rt, &INTERFACES);
 }
 
 /// A frame, a blank and such bytes behind it, so many bytes in all.
@@ -93,56 +101,96 @@ fn padded(alloc: Global, len: usize, fill: u8) -> Result<Vec<u8>, Fail> {
     Ok(text)
 }
 
+/// A text of so many bytes says what is wanted.
+fn assert_padded(
+    rt: &impl Abort,
+    alloc: Global,
+    len: usize,
+    fill: u8,
+    want: &Want,
+) -> Result<(), Fail> {
+    assert!(rt; says(&line(&padded(alloc, len, fill)?), want));
+    Ok(())
+}
+
 /// A text of 512 bytes is a frame, and one of 513 a bad line, whatever fills them.
-fn assert_longest(rt: &impl Abort, alloc: Global, fill: u8) -> Result<(), Fail> {
-    let frame = Want::Frame(1_000_000, false, 0x100, &[0x00]);
-    assert!(rt; says(&line(&padded(alloc, 512, fill)?), &frame));
-    assert!(rt; says(&line(&padded(alloc, 513, fill)?), &Want::Bad));
+fn assert_longest(rt: &impl Abort, alloc: Global, fills: &[u8]) -> Result<(), Fail> {
+    for fill in fills {
+        let frame = Want::Frame(1_000_000, false, 0x100, &[0x00]);
+        assert_padded(rt, alloc, 512, *fill, &frame)?;
+        assert_padded(rt, alloc, 513, *fill, &Want::Bad)?;
+    }
     Ok(())
 }
 
 #[test]
 fn a_line_has_512_bytes_at_most(rt: HostRuntime) -> Result<(), Fail> {
-    for fill in [b'a', b'Z', b' ', b'\r'] {
-        assert_longest(&rt, rt.alloc(), fill)?;
-    }
-    Ok(())
+    assert_longest(&rt, rt.alloc(), b"aZ \r")
 }
 
-#[test]
-fn a_line_goes_to_the_first_name_of_its_interface(rt: HostRuntime) -> Result<(), Fail> {
-    let alloc = rt.alloc();
-    let mut names = Vec::new(alloc);
-    for name in [b"can0", b"can1", b"can1", b"can0"] {
-        names.push(Text::of(alloc, name)?)?;
+fn texts_of(alloc: Global, names: &[&[u8]]) -> Result<Vec<Text>, Fail> {
+    let mut texts = Vec::new(alloc);
+    for name in names {
+        texts.push(Text::of(alloc, name)?)?;
     }
+    Ok(texts)
+}
+
+/// The next line goes to this place among the names.
+fn assert_place(rt: &impl Abort, lines: &mut Lines<MemSource>, names: &[Text], place: Option<u32>) {
+    if lines.failed() || names.len() > 4 {
+        panic!(rt; "a call was refused, or there are too many names");
+    }
+    match lines.next_on(names) {
+        Ok(Some(routed)) => assert_eq!(rt; routed.place, place),
+        Ok(None) | Err(_) => panic!(rt; "a line is left"),
+    }
+}
+
+/// The next lines go to these places among the names.
+fn assert_places(
+    rt: &impl Abort,
+    lines: &mut Lines<MemSource>,
+    names: &[Text],
+    places: &[Option<u32>],
+) {
+    for place in places {
+        assert_place(rt, lines, names, *place);
+    }
+}
+
+/// Lines of interfaces that are names and that are none.
+fn routed_log(alloc: Global) -> Result<Vec<u8>, Fail> {
     let mut bytes = b"(1.0000) can0 100#01\n(1.000000) can0 1#\n(1.000000) can0 100#01\n\
         (1.000000) can1 100#02\n(1.000000) can2 100#03\n(1.000000) can0 100#04\n(1.000000) can 100#05\n"
         .to_vec(alloc)?;
     bytes.extend_from_slice(&padded(alloc, 513, b'a')?)?;
     bytes.extend_from_slice(b"\n(1.000000) can1 100#06")?;
-    let source = MemSource::new(bytes, 100, Vec::new(alloc));
+    Ok(bytes)
+}
+
+/// The place of each line of that log among the names.
+const PLACES: [Option<u32>; 9] = [
+    None,
+    None,
+    Some(0),
+    Some(1),
+    None,
+    Some(0),
+    None,
+    None,
+    Some(1),
+];
+
+#[test]
+fn a_line_goes_to_the_first_name_of_its_interface(rt: HostRuntime) -> Result<(), Fail> {
+    let alloc = rt.alloc();
+    let names = texts_of(alloc, &[b"can0", b"can1", b"can1", b"can0"])?;
+    let source = MemSource::new(routed_log(alloc)?, 100, Vec::new(alloc));
     let Ok(mut lines) = Lines::new(alloc, source) else {
         panic!(rt; "out of memory");
     };
-    for place in [
-        None,
-        None,
-        Some(0),
-        Some(1),
-        None,
-        Some(0),
-        None,
-        None,
-        Some(1),
-    ] {
-        if !lines.failed() && names.len() == 4 {
-            match lines.next_on(&names) {
-                Ok(Some(routed)) => assert_eq!(rt; routed.place, place),
-                Ok(None) | Err(_) => panic!(rt; "a line is left"),
-            }
-        }
-    }
+    assert_places(&rt, &mut lines, &names, &PLACES);
     Ok(())
 }
 

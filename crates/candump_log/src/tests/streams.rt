@@ -80,11 +80,17 @@ fn assert_whole(rt: &impl Abort, alloc: Global, log: &Table, step: usize) -> Res
     Ok(())
 }
 
-fn assert_whole_at_each(rt: &impl Abort, alloc: Global, log: &Table) -> Result<(), Fail> {
-    for step in [1, 2, 3, 46, 511, 512, 513, 65_536] {
-        if step > 0 {
-            assert_whole(rt, alloc, log, step)?;
-        }
+const STEPS: [usize; 8] = [1, 2, 3, 46, 511, 512, 513, 65_536];
+
+fn assert_whole_at_each(
+    rt: &impl Abort,
+    alloc: Global,
+    log: &Table,
+    steps: &[usize],
+) -> Result<(), Fail> {
+    for step in steps {
+        assert!(rt; *step > 0);
+        assert_whole(rt, alloc, log, *step)?;
     }
     Ok(())
 }
@@ -93,14 +99,14 @@ fn assert_whole_at_each(rt: &impl Abort, alloc: Global, log: &Table) -> Result<(
 fn a_log_has_the_same_lines_whatever_its_reads(rt: HostRuntime) -> Result<(), Fail> {
     let alloc = rt.alloc();
     let log = log_ending(alloc, Longest::IsOver, Longest::Fits)?;
-    assert_whole_at_each(&rt, alloc, &log)
+    assert_whole_at_each(&rt, alloc, &log, &STEPS)
 }
 
 #[test]
 fn a_last_line_that_is_too_long_is_bad_whatever_the_reads(rt: HostRuntime) -> Result<(), Fail> {
     let alloc = rt.alloc();
     let log = log_ending(alloc, Longest::Fits, Longest::IsOver)?;
-    assert_whole_at_each(&rt, alloc, &log)
+    assert_whole_at_each(&rt, alloc, &log, &STEPS)
 }
 
 #[test]
@@ -164,16 +170,24 @@ fn assert_unreached(
     Ok(())
 }
 
+fn assert_failing_at_each(
+    rt: &impl Abort,
+    alloc: Global,
+    log: &Table,
+    steps: &[usize],
+) -> Result<(), Fail> {
+    for step in steps {
+        assert!(rt; *step > 0);
+        assert_each_failing(rt, alloc, log, *step)?;
+    }
+    Ok(())
+}
+
 #[test]
 fn a_read_that_fails_leaves_the_lines_before_it(rt: HostRuntime) -> Result<(), Fail> {
     let alloc = rt.alloc();
     let log = log_ending(alloc, Longest::IsOver, Longest::Fits)?;
-    for step in [46, 512, 65_536] {
-        if step > 0 {
-            assert_each_failing(&rt, alloc, &log, step)?;
-        }
-    }
-    Ok(())
+    assert_failing_at_each(&rt, alloc, &log, &[46, 512, 65_536])
 }
 
 /// Three lines of 23 bytes with their line feeds.
@@ -210,21 +224,27 @@ fn assert_ready(rt: &impl Abort, lines: &mut Lines<MemSource>, ready: bool, some
     assert_eq!(rt; lines.taken(), 47);
 }
 
+/// Whether a line is ready, and whether a call gives one; none is given again after the end.
+const READY: [(bool, bool); 5] = [
+    (false, true),
+    (true, true),
+    (false, true),
+    (false, false),
+    (false, false),
+];
+
+fn assert_each_ready(rt: &impl Abort, lines: &mut Lines<MemSource>, rows: &[(bool, bool)]) {
+    for (ready, some) in rows {
+        assert_ready(rt, lines, *ready, *some);
+    }
+}
+
 #[test]
 fn a_line_is_ready_where_it_was_read(rt: HostRuntime) -> Result<(), Fail> {
     let alloc = rt.alloc();
     let bytes = b"(1.000000) can0 100#01\n(1.000000) can0 100#02\nx";
     let mut lines = reader(&rt, alloc, bytes, 65_536, &[])?;
-    // None is given again after the end.
-    for (ready, some) in [
-        (false, true),
-        (true, true),
-        (false, true),
-        (false, false),
-        (false, false),
-    ] {
-        assert_ready(&rt, &mut lines, ready, some);
-    }
+    assert_each_ready(&rt, &mut lines, &READY);
     // The source comes back at its end, so a reader of what it has left finds nothing.
     assert_eq!(rt; lines.into_source().read(&mut [0u8; 9]), Ok(0));
     Ok(())
