@@ -3,11 +3,12 @@
 use Rattle.std.specs.Prelude.{ℕ, ◌&&◌, ◌==◌, Bool, false, not, List, [], ◌∷◌, Option, Some, None, codes, if◌then◌else◌}
 use Rattle.std.specs.Str.{bytes_eq}
 use Rattle.std.specs.Option.{option_map}
+use Rattle.byte_forms.specs.Bytes.{hyphen}
 
--- whether a word begins with `-`, which is 45, and is more than that
+-- whether a word begins with `-` and is more than that
 abbrev pub is_option : List ℕ → Bool
 is_option [] = false
-is_option (b ∷ rest) = b == 45 && not (bytes_eq rest [])
+is_option (b ∷ rest) = b == hyphen && not (bytes_eq rest [])
 
 -- whether a word is `--`
 abbrev pub is_dashes : List ℕ → Bool
