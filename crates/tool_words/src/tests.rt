@@ -19,69 +19,89 @@ fn name_commands(rt: &impl Abort, alloc: Global, rows: &[Row]) -> Result<(), Fai
     Ok(())
 }
 
-const fn decode(bench: &'static str) -> Option<Command<'static>> {
-    Some(Command::Decode { bench })
-}
+const COMMANDS: [Row; 18] = [
+    (
+        &["decode", "bench.txt"],
+        Some(Command::Decode { bench: "bench.txt" }),
+    ),
+    (&["decode", "-"], Some(Command::Decode { bench: "-" })),
+    (&["decode", ""], Some(Command::Decode { bench: "" })),
+    (
+        &["decode", "--", "-x"],
+        Some(Command::Decode { bench: "-x" }),
+    ),
+    (
+        &["decode", "--", "--"],
+        Some(Command::Decode { bench: "--" }),
+    ),
+    (&["decode", "a", "--"], Some(Command::Decode { bench: "a" })),
+    (&["check", "a.dbc"], Some(Command::Check { file: "a.dbc" })),
+    (&[], None),
+    (&["decode"], None),
+    (&["decode", "--"], None),
+    (&["decode", "a", "b"], None),
+    (&["decode", "-x"], None),
+    (&["decode", "-x", "--", "a"], None),
+    (&["decode", "a", "--", "b"], None),
+    (&["--", "decode", "a"], None),
+    (&["help"], None),
+    (&["mills", "1"], None),
+    (&["Decode", "a"], None),
+];
 
 #[test]
 fn words_name_commands(rt: HostRuntime) -> Result<(), Fail> {
-    let rows: [Row; 18] = [
-        (&["decode", "bench.txt"], decode("bench.txt")),
-        (&["decode", "-"], decode("-")),
-        (&["decode", ""], decode("")),
-        (&["decode", "--", "-x"], decode("-x")),
-        (&["decode", "--", "--"], decode("--")),
-        (&["decode", "a", "--"], decode("a")),
-        (&["check", "a.dbc"], Some(Command::Check { file: "a.dbc" })),
-        (&[], None),
-        (&["decode"], None),
-        (&["decode", "--"], None),
-        (&["decode", "a", "b"], None),
-        (&["decode", "-x"], None),
-        (&["decode", "-x", "--", "a"], None),
-        (&["decode", "a", "--", "b"], None),
-        (&["--", "decode", "a"], None),
-        (&["help"], None),
-        (&["mills", "1"], None),
-        (&["Decode", "a"], None),
-    ];
-    name_commands(&rt, rt.alloc(), &rows)
+    name_commands(&rt, rt.alloc(), &COMMANDS)
 }
 
-const fn mill(frames: u32) -> Option<Command<'static>> {
-    Some(Command::Mill { frames })
-}
+const MILLS: [Row; 14] = [
+    (&["mill", "1"], Some(Command::Mill { frames: 1 })),
+    (&["mill", "007"], Some(Command::Mill { frames: 7 })),
+    (
+        &["mill", "00000000000000000000000000000000000000001"],
+        Some(Command::Mill { frames: 1 }),
+    ),
+    (
+        &["mill", "1000000"],
+        Some(Command::Mill { frames: 1_000_000 }),
+    ),
+    (&["mill", "--", "1"], Some(Command::Mill { frames: 1 })),
+    (&["mill", "0"], None),
+    (&["mill", "1000001"], None),
+    (&["mill", "18446744073709551617"], None),
+    (&["mill", ""], None),
+    (&["mill", "+1"], None),
+    (&["mill", "--", "-1"], None),
+    (&["mill", "1x"], None),
+    (&["mill"], None),
+    (&["mill", "1", "2"], None),
+];
 
 #[test]
 fn mill_takes_one_to_a_million_frames(rt: HostRuntime) -> Result<(), Fail> {
-    let rows: [Row; 14] = [
-        (&["mill", "1"], mill(1)),
-        (&["mill", "007"], mill(7)),
-        (
-            &["mill", "00000000000000000000000000000000000000001"],
-            mill(1),
-        ),
-        (&["mill", "1000000"], mill(1_000_000)),
-        (&["mill", "--", "1"], mill(1)),
-        (&["mill", "0"], None),
-        (&["mill", "1000001"], None),
-        (&["mill", "18446744073709551617"], None),
-        (&["mill", ""], None),
-        (&["mill", "+1"], None),
-        (&["mill", "--", "-1"], None),
-        (&["mill", "1x"], None),
-        (&["mill"], None),
-        (&["mill", "1", "2"], None),
-    ];
-    name_commands(&rt, rt.alloc(), &rows)
+    name_commands(&rt, rt.alloc(), &MILLS)
+}
+
+/// Names, and whether they are those of LDF files.
+const NAMES: [(&str, bool); 9] = [
+    ("l.ldf", true),
+    ("L.LDF", true),
+    (".ldf", true),
+    ("a.dbc.Ldf", true),
+    ("ldf", false),
+    ("l.ldf ", false),
+    ("", false),
+    ("l.dbc", false),
+    ("l.ldfx", false),
+];
+
+fn name_ldf_files(rt: &impl Abort, rows: &[(&str, bool)]) {
+    for (name, is_ldf) in rows {
+        assert!(rt; is_ldf_name(name) == *is_ldf);
+    }
 }
 
 #[test]
 fn names_of_ldf_files_end_in_any_case(rt: HostRuntime) {
-    for name in ["l.ldf", "L.LDF", ".ldf", "a.dbc.Ldf"] {
-        assert!(rt; is_ldf_name(name));
-    }
-    for name in ["ldf", "l.ldf ", "", "l.dbc", "l.ldfx"] {
-        assert!(rt; !is_ldf_name(name));
-    }
+    name_ldf_files(&rt, &NAMES);
 }
