@@ -5,6 +5,22 @@ use std::alloc::Global;
 use std::process::Abort;
 use std::test::Fail;
 
+/// Appends the words of a line, each in `<` and `>`, and `|`.
+fn append_words(out: &mut Vec<u8>, line: &[u8]) -> Result<(), Fail> {
+    let mut words = line;
+    for _ in 0..line.len() {
+        let Some((word, behind)) = next_word(words) else {
+            break;
+        };
+        out.push(b'<')?;
+        out.extend_from_slice(word)?;
+        out.push(b'>')?;
+        words = behind;
+    }
+    out.push(b'|')?;
+    Ok(())
+}
+
 /// The words of each line, one list after another with `|` between.
 fn words_text(alloc: Global, text: &[u8]) -> Result<Vec<u8>, Fail> {
     let mut out = Vec::new(alloc);
@@ -13,17 +29,7 @@ fn words_text(alloc: Global, text: &[u8]) -> Result<Vec<u8>, Fail> {
         let Some((line, after)) = next_text_line(rest) else {
             break;
         };
-        let mut words = line;
-        for _ in 0..line.len() {
-            let Some((word, behind)) = next_word(words) else {
-                break;
-            };
-            out.push(b'<')?;
-            out.extend_from_slice(word)?;
-            out.push(b'>')?;
-            words = behind;
-        }
-        out.push(b'|')?;
+        append_words(&mut out, line)?;
         rest = after;
     }
     Ok(out)
