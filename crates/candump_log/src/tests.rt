@@ -8,7 +8,7 @@ mod table;
 
 use crate::*;
 use bench_model::Text;
-use cases::{CASES, Case, LENGTHS, Want};
+use cases::{CLASSIC, Case, LENGTHS, REMOTE_AND_FD, STAMPS_AND_BLANKS, Want};
 use error_frames::ERROR_FRAMES;
 use port_io::{MemSource, Source};
 use std::alloc::Global;
@@ -52,8 +52,16 @@ fn assert_cases(rt: &impl Abort, cases: &[Case]) {
     }
 }
 
-fn assert_forms(rt: &impl Abort) {
-    assert_cases(rt, &CASES);
+fn assert_classic(rt: &impl Abort) {
+    assert_cases(rt, &CLASSIC);
+}
+
+fn assert_remote_and_fd(rt: &impl Abort) {
+    assert_cases(rt, &REMOTE_AND_FD);
+}
+
+fn assert_stamps_and_blanks(rt: &impl Abort) {
+    assert_cases(rt, &STAMPS_AND_BLANKS);
 }
 
 fn assert_error_frames(rt: &impl Abort) {
@@ -66,7 +74,9 @@ fn assert_lengths(rt: &impl Abort) {
 
 #[test]
 fn each_form_says_what_it_is(rt: HostRuntime) {
-    assert_forms(&rt);
+    assert_classic(&rt);
+    assert_remote_and_fd(&rt);
+    assert_stamps_and_blanks(&rt);
     assert_error_frames(&rt);
     assert_lengths(&rt);
 }

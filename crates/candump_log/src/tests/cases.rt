@@ -15,8 +15,8 @@ pub struct Case {
     pub want: Want,
 }
 
-/// Each form with the values at its limits, and the nearest that are bad.
-pub const CASES: [Case; 73] = [
+/// Identifiers and the data of classic frames: the values at their limits, and the nearest that are bad.
+pub const CLASSIC: [Case; 34] = [
     Case {
         text: b"(0000000001.000000) can0 100#A00F000000000000",
         want: Want::Frame(
@@ -168,6 +168,10 @@ pub const CASES: [Case; 73] = [
         text: b"(1.000000) can0 100#_G",
         want: Want::Bad,
     },
+];
+
+/// Remote frames and CAN FD frames: the same.
+pub const REMOTE_AND_FD: [Case; 16] = [
     Case {
         text: b"(1.000001) can0 123#R",
         want: Want::Remote(1000001, false, 0x123),
@@ -247,6 +251,10 @@ pub const CASES: [Case; 73] = [
             000",
         want: Want::Bad,
     },
+];
+
+/// Blanks, further words and stamps: the same.
+pub const STAMPS_AND_BLANKS: [Case; 23] = [
     Case {
         text: b"(1.000000)\t can0 \r\t100#01",
         want: Want::Frame(1000000, false, 0x100, &[0x01]),

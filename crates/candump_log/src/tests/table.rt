@@ -1,6 +1,6 @@
 //! A log with what each of its lines says.
 
-use super::cases::{CASES, Case, LENGTHS, Want};
+use super::cases::{CLASSIC, Case, LENGTHS, REMOTE_AND_FD, STAMPS_AND_BLANKS, Want};
 use super::error_frames::ERROR_FRAMES;
 use super::padded;
 use std::alloc::{AllocError, Global};
@@ -74,7 +74,9 @@ fn all_cases(alloc: Global) -> Result<Table, AllocError> {
     let mut table = Table::new(alloc);
     table.add_long(600)?;
     table.add_long(70_000)?;
-    table.add_cases(&CASES)?;
+    table.add_cases(&CLASSIC)?;
+    table.add_cases(&REMOTE_AND_FD)?;
+    table.add_cases(&STAMPS_AND_BLANKS)?;
     table.add_cases(&ERROR_FRAMES)?;
     table.add_cases(&LENGTHS)?;
     Ok(table)
