@@ -69,16 +69,36 @@ fn add_longest(alloc: Global, table: &mut Table, longest: Longest) -> Result<(),
     Ok(())
 }
 
+fn add_classic(table: &mut Table) -> Result<(), AllocError> {
+    table.add_cases(&CLASSIC)
+}
+
+fn add_remote_and_fd(table: &mut Table) -> Result<(), AllocError> {
+    table.add_cases(&REMOTE_AND_FD)
+}
+
+fn add_stamps_and_blanks(table: &mut Table) -> Result<(), AllocError> {
+    table.add_cases(&STAMPS_AND_BLANKS)
+}
+
+fn add_error_frames(table: &mut Table) -> Result<(), AllocError> {
+    table.add_cases(&ERROR_FRAMES)
+}
+
+fn add_lengths(table: &mut Table) -> Result<(), AllocError> {
+    table.add_cases(&LENGTHS)
+}
+
 /// Two lines that are far too long, and all cases.
 fn all_cases(alloc: Global) -> Result<Table, AllocError> {
     let mut table = Table::new(alloc);
     table.add_long(600)?;
     table.add_long(70_000)?;
-    table.add_cases(&CLASSIC)?;
-    table.add_cases(&REMOTE_AND_FD)?;
-    table.add_cases(&STAMPS_AND_BLANKS)?;
-    table.add_cases(&ERROR_FRAMES)?;
-    table.add_cases(&LENGTHS)?;
+    add_classic(&mut table)?;
+    add_remote_and_fd(&mut table)?;
+    add_stamps_and_blanks(&mut table)?;
+    add_error_frames(&mut table)?;
+    add_lengths(&mut table)?;
     Ok(table)
 }
 
