@@ -1,7 +1,7 @@
-pub mod Lists
-pub mod Lanes
-pub mod Loader
-pub mod First
-pub mod Schedules
-pub mod Range
+pub mod ListLaws
+pub mod LaneLaws
+pub mod LoaderLaws
+pub mod FirstLaws
+pub mod ScheduleLaws
+pub mod RangeLaws
 pub mod UseLaws

@@ -9,8 +9,8 @@ use Rattle.epoch_core.specs.Machine.{Machine, retirement}
 use Rattle.epoch_core.specs.Steps.{May, after}
 use Rattle.epoch_core.specs.Rule.{RegionRule}
 use Rattle.epoch_core.specs.Runs.{run, AreAllowed, Publishes}
-use Rattle.epoch_core.proofs.Lists.{read_after_set}
-use Rattle.epoch_core.proofs.Schedules.{kept}
+use Rattle.epoch_core.proofs.ListLaws.{read_after_set}
+use Rattle.epoch_core.proofs.ScheduleLaws.{kept}
 
 -- the region is the published one, or was retired since it was
 abbrev IsUsed : Machine → ℕ → Type 0

@@ -27,12 +27,12 @@ impl State {
             epoch: 0,
             version: 0,
             region: 0,
-            pins: repeated(alloc, 0, lanes)?,
+            pins: repeat(alloc, 0, lanes)?,
             regions: first_regions(alloc, regions, image)?,
-            retired: repeated(alloc, None, regions)?,
+            retired: repeat(alloc, None, regions)?,
             images: first_images(alloc, image)?,
             writing: None,
-            lanes: repeated(alloc, LaneState::Idle, lanes)?,
+            lanes: repeat(alloc, LaneState::Idle, lanes)?,
             cleared: first_clearings(alloc, regions, lanes)?,
         };
         state.keeps_rule();
@@ -41,7 +41,7 @@ impl State {
 }
 
 /// A value so many times.
-fn repeated<T: Copy + Drop>(alloc: Global, value: T, count: u32) -> Result<List<T>, AllocError>
+fn repeat<T: Copy + Drop>(alloc: Global, value: T, count: u32) -> Result<List<T>, AllocError>
     ensures { IfOk result (λ list. list ≡ replicate count value) }
 {
     let mut list = List::of(Vec::new(alloc));
@@ -60,7 +60,7 @@ fn first_images(alloc: Global, image: &[u64]) -> Result<List<List<u64>>, AllocEr
 }
 
 /// The image and then the other regions, which are empty.
-#[tactic(auto, using(crate::proofs::Lists::one_more))]
+#[tactic(auto, using(crate::proofs::ListLaws::one_more))]
 fn first_regions(alloc: Global, count: u32, image: &[u64]) -> Result<List<List<u64>>, AllocError>
     requires { 1 ≤ count }
     ensures { IfOk result (λ list. list ≡ image.now ∷ replicate (count - 1) []) }
@@ -73,15 +73,15 @@ fn first_regions(alloc: Global, count: u32, image: &[u64]) -> Result<List<List<u
 }
 
 /// No lane for the first region, and every lane for each other one.
-#[tactic(auto, using(crate::proofs::Lists::one_more))]
+#[tactic(auto, using(crate::proofs::ListLaws::one_more))]
 fn first_clearings(alloc: Global, regions: u32, lanes: u32) -> Result<List<List<bool>>, AllocError>
     requires { 1 ≤ regions }
     ensures { IfOk result (λ list. list ≡ replicate lanes false ∷ replicate (regions - 1) (replicate lanes true)) }
 {
     let mut cleared = List::of(Vec::new(alloc));
-    cleared.push(repeated(alloc, false, lanes)?)?;
+    cleared.push(repeat(alloc, false, lanes)?)?;
     for _ in 1..regions {
-        cleared.push(repeated(alloc, true, lanes)?)?;
+        cleared.push(repeat(alloc, true, lanes)?)?;
     }
     Ok(cleared)
 }

@@ -77,7 +77,7 @@ impl State {
     }
 
     /// Whether a step may be taken. A step that names a lane or a region that is not there may not.
-    #[tactic(auto, using(crate::proofs::Range::in_range))]
+    #[tactic(auto, using(crate::proofs::RangeLaws::in_range))]
     pub fn may(&self, step: &Step) -> bool
         ensures exact { IsTrue result ↔ May self.now step.now }
         ensures in_range { IsTrue result → NamesWhatIsThere self.now step.now }

@@ -68,7 +68,7 @@ impl State {
         }
     }
 
-    #[tactic(auto, using(crate::proofs::Lanes::load_epoch_kept))]
+    #[tactic(auto, using(crate::proofs::LaneLaws::load_epoch_kept))]
     fn load_epoch(&mut self, lane: u32)
         requires { May self.old (Step.L1 lane) }
         ensures { self.new ≡ after self.old (Step.L1 lane) }
@@ -77,7 +77,7 @@ impl State {
         self.lanes.set(lane as usize, LaneState::Loaded { epoch });
     }
 
-    #[tactic(auto, using(crate::proofs::Lanes::is_loaded))]
+    #[tactic(auto, using(crate::proofs::LaneLaws::is_loaded))]
     fn store_pin(&mut self, lane: u32)
         requires { May self.old (Step.L2 lane) }
         ensures { self.new ≡ after self.old (Step.L2 lane) }
@@ -140,7 +140,7 @@ impl State {
         Ok(())
     }
 
-    #[tactic(auto, using(crate::proofs::Loader::store_epoch_kept))]
+    #[tactic(auto, using(crate::proofs::LoaderLaws::store_epoch_kept))]
     fn store_epoch(&mut self)
         requires { May self.old Step.W3 }
         ensures { self.new ≡ after self.old Step.W3 }
@@ -148,7 +148,7 @@ impl State {
         self.epoch += 1;
     }
 
-    #[tactic(auto, using(crate::proofs::Loader::load_pin_kept))]
+    #[tactic(auto, using(crate::proofs::LoaderLaws::load_pin_kept))]
     fn load_pin(&mut self, region: u32, lane: u32)
         requires { May self.old (Step.W4 region lane) }
         ensures { self.new ≡ after self.old (Step.W4 region lane) }

@@ -183,18 +183,51 @@ static TOO_LONG: [Step; 1] = [Step::W2 {
 
 /// Takes steps, each of which has to be allowed.
 fn take_all(rt: &impl Abort, state: &mut State, steps: &[Step]) -> Result<(), Fail> {
-    for step in steps {
-        assert!(rt; state.may(step), "{step:?}");
+    for (place, step) in steps.iter().enumerate() {
+        assert!(rt; state.may(step), "step {place}");
         state.take(step)?;
     }
     Ok(())
 }
 
+/// The place of the first step that is allowed.
+fn first_allowed(state: &State, steps: &[Step]) -> Option<usize> {
+    steps.iter().position(|step| state.may(step))
+}
+
 /// No step is allowed.
 fn refuse_all(rt: &impl Abort, state: &State, steps: &[Step]) {
-    for step in steps {
-        assert!(rt; !state.may(step), "{step:?}");
-    }
+    assert_eq!(rt; first_allowed(state, steps), None);
+}
+
+/// The published version, its epoch and its region.
+fn assert_published(rt: &impl Abort, state: &State, version: u32, epoch: u64, region: u32) {
+    assert_eq!(rt;
+        (state.version, state.epoch, state.region),
+        (version, epoch, region)
+    );
+}
+
+/// By region, the epoch at which it was retired.
+fn assert_retired(rt: &impl Abort, state: &State, epochs: &[Option<u64>]) {
+    assert_eq!(rt; state.retired.items(), epochs);
+}
+
+/// By lane, its pin.
+fn assert_pins(rt: &impl Abort, state: &State, pins: &[u64]) {
+    assert_eq!(rt; state.pins.items(), pins);
+}
+
+/// The region being written.
+fn assert_writing(rt: &impl Abort, state: &State, region: Option<u32>) {
+    assert_eq!(rt; state.writing, region);
+}
+
+/// The image of the last of so many versions.
+fn assert_last_image(rt: &impl Abort, state: &State, versions: usize, words: &[u64]) {
+    let images = state.images.items();
+    assert_eq!(rt; images.len(), versions);
+    assert_eq!(rt; images.last().map(|image| image.items()), Some(words));
 }
 
 /// The state after version 1 was published while a lane read version 0.
@@ -214,13 +247,12 @@ fn assert_written_after(
     pin: u64,
 ) -> Result<(), Fail> {
     let mut state = published_under_a_reader(rt)?;
-    assert_eq!(rt; state.retired.items(), [Some(0), None].as_slice());
+    assert_retired(rt, &state, &[Some(0), None]);
     take_all(rt, &mut state, steps)?;
-    assert_eq!(rt; state.pins.items(), [pin].as_slice());
+    assert_pins(rt, &state, &[pin]);
     take_all(rt, &mut state, &WRITE_AGAIN)?;
-    assert_eq!(rt; state.epoch, 1);
-    assert_eq!(rt; state.version, 1);
-    assert_eq!(rt; state.writing, Some(0));
+    assert_published(rt, &state, 1, 1, 1);
+    assert_writing(rt, &state, Some(0));
     Ok(())
 }
 
@@ -238,13 +270,9 @@ fn a_second_publication_uses_the_first_region_again(rt: HostRuntime) -> Result<(
     let mut state = published_under_a_reader(&rt)?;
     take_all(&rt, &mut state, &LET_GO)?;
     take_all(&rt, &mut state, &PUBLISH_AGAIN)?;
-    assert_eq!(rt; state.version, 2);
-    assert_eq!(rt; state.epoch, 2);
-    assert_eq!(rt; state.region, 0);
-    assert_eq!(rt; state.retired.items(), [None, Some(1)].as_slice());
-    assert_eq!(rt; state.images.items().len(), 3);
-    let image = &state.images.items()[2];
-    assert_eq!(rt; image.items(), [1, 2].as_slice());
+    assert_published(&rt, &state, 2, 2, 0);
+    assert_retired(&rt, &state, &[None, Some(1)]);
+    assert_last_image(&rt, &state, 3, &[1, 2]);
     Ok(())
 }
 

@@ -1,4 +1,4 @@
-use Rattle.epoch_core.proofs.Schedules.{held_whole, reached_kept}
+use Rattle.epoch_core.proofs.ScheduleLaws.{held_whole, reached_kept}
 use Rattle.epoch_core.proofs.laws.a_held_image_stays_whole.Goals as goal
 
 pub returns : goal.returns

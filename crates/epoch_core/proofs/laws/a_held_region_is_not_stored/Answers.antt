@@ -1,4 +1,4 @@
-use Rattle.epoch_core.proofs.Schedules.{held_not_stored, held_words_stay, reached_kept}
+use Rattle.epoch_core.proofs.ScheduleLaws.{held_not_stored, held_words_stay, reached_kept}
 use Rattle.epoch_core.proofs.laws.a_held_region_is_not_stored.Goals as goal
 
 pub returns-clause-words : goal.returns-clause-words

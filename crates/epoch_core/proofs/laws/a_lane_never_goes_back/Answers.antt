@@ -1,4 +1,4 @@
-use Rattle.epoch_core.proofs.Schedules.{never_back, never_behind, reached_kept}
+use Rattle.epoch_core.proofs.ScheduleLaws.{never_back, never_behind, reached_kept}
 use Rattle.epoch_core.proofs.laws.a_lane_never_goes_back.Goals as goal
 
 pub returns-clause-held : goal.returns-clause-held

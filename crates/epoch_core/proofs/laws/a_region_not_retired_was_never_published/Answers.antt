@@ -1,6 +1,6 @@
 use Rattle.std.proofs.Common.{refl, inl}
 use Rattle.epoch_core.specs.Machine.{first}
-use Rattle.epoch_core.proofs.First.{first_kept}
+use Rattle.epoch_core.proofs.FirstLaws.{first_kept}
 use Rattle.epoch_core.proofs.UseLaws.{was_unused}
 use Rattle.epoch_core.proofs.laws.a_region_not_retired_was_never_published.Goals as goal
 

@@ -1,4 +1,4 @@
-use Rattle.epoch_core.proofs.Schedules.{versions_grow, images_stay, reached_kept}
+use Rattle.epoch_core.proofs.ScheduleLaws.{versions_grow, images_stay, reached_kept}
 use Rattle.epoch_core.proofs.laws.a_version_never_goes_down.Goals as goal
 
 pub returns-clause-version : goal.returns-clause-version

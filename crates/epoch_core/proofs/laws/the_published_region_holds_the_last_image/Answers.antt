@@ -1,4 +1,4 @@
-use Rattle.epoch_core.proofs.Schedules.{reached_kept}
+use Rattle.epoch_core.proofs.ScheduleLaws.{reached_kept}
 use Rattle.epoch_core.proofs.laws.the_published_region_holds_the_last_image.Goals as goal
 
 pub returns-clause-count : goal.returns-clause-count

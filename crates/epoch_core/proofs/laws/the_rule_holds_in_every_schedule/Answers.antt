@@ -1,6 +1,6 @@
 use Rattle.epoch_core.specs.Machine.{first}
-use Rattle.epoch_core.proofs.First.{first_kept}
-use Rattle.epoch_core.proofs.Schedules.{all_kept}
+use Rattle.epoch_core.proofs.FirstLaws.{first_kept}
+use Rattle.epoch_core.proofs.ScheduleLaws.{all_kept}
 use Rattle.epoch_core.proofs.laws.the_rule_holds_in_every_schedule.Goals as goal
 
 pub returns-clause-first : goal.returns-clause-first

@@ -1,6 +1,6 @@
 -- The rule is kept, since the new state is the one after the step.
 use Rattle.std.proofs.Common.{◌≡◌, [], length, get_or, arith}
-use Rattle.epoch_core.proofs.Loader.{publish_kept}
+use Rattle.epoch_core.proofs.LoaderLaws.{publish_kept}
 use Rattle.epoch_core.proofs.state.State.publish.Goals as goal
 
 pub invariant_of-self-2 : goal.invariant_of-self-2

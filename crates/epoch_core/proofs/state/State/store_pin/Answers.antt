@@ -1,5 +1,5 @@
 -- The rule is kept, since the new state is the one after the step.
-use Rattle.epoch_core.proofs.Lanes.{store_pin_kept}
+use Rattle.epoch_core.proofs.LaneLaws.{store_pin_kept}
 use Rattle.epoch_core.proofs.state.State.store_pin.Goals as goal
 
 pub invariant_of-self : goal.invariant_of-self

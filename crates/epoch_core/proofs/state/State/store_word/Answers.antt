@@ -1,5 +1,5 @@
 -- The rule is kept, since the new state is the one after the step.
-use Rattle.epoch_core.proofs.Loader.{store_word_kept}
+use Rattle.epoch_core.proofs.LoaderLaws.{store_word_kept}
 use Rattle.epoch_core.proofs.state.State.store_word.Goals as goal
 
 pub invariant_of-self-2 : goal.invariant_of-self-2

@@ -1,4 +1,4 @@
--- What an element of a list is after one was replaced, and which elements a list has.
+-- An element of a list is the new one where it was replaced, and the one before elsewhere.
 use Rattle.std.proofs.Common.{◌≡◌, ◌≢◌, ℕ, ◌<◌, ◌≤◌, Bool, false, ◌+◌, ◌-◌, List, [], ◌∷◌, ◌++◌, length, replicate, get_or, set, inl, inr, sym, subst, ap, arith, ◌∙◌}
 use Rattle.std.specs.List.{All}
 use Rattle.std.proofs.lemmas.Bool.Decides.{eqb_tells, leb_tells}

@@ -6,7 +6,7 @@ use Rattle.epoch_core.specs.declared.step.Step.TheVariants.{L1, L2, L3, L4, L5, 
 use Rattle.epoch_core.specs.Machine.{Machine}
 use Rattle.epoch_core.specs.Steps.{May, NamesWhatIsThere}
 use Rattle.epoch_core.specs.Rule.{RegionRule}
-use Rattle.epoch_core.proofs.Lists.{is_within}
+use Rattle.epoch_core.proofs.ListLaws.{is_within}
 
 pub in_range : (m : Machine) (step : Step) → RegionRule m → May m step → NamesWhatIsThere m step
 in_range m (L1 lane) rule may = may.0

@@ -1,4 +1,4 @@
--- The steps of the lanes keep the rule.
+-- Each step of a lane keeps the rule.
 use Rattle.std.proofs.Common.{◌≡◌, ℕ, ◌+◌, ◌<◌, ◌≤◌, List, length, get_or, set, inl, inr, sym, subst, refl, ap, arith, ◌∙◌}
 use Rattle.std.proofs.lemmas.Bool.Decides.{eqb_tells}
 use Rattle.std.proofs.lemmas.Grind.{get_or-set_at}
@@ -9,7 +9,7 @@ use Rattle.epoch_core.specs.declared.step.Step.TheVariants.{L1, L2, L3, L5}
 use Rattle.epoch_core.specs.Machine.{Machine, lane_state, pin_of, clearings}
 use Rattle.epoch_core.specs.Steps.{May, after, loaded_epoch}
 use Rattle.epoch_core.specs.Rule.{RegionRule, Announces, IsSafe}
-use Rattle.epoch_core.proofs.Lists.{read_after_set, is_within, none_reads}
+use Rattle.epoch_core.proofs.ListLaws.{read_after_set, is_within, none_reads}
 
 announced_after : (now : ℕ) (lanes : List LaneState) (pins : List ℕ) (lane other : ℕ) (state : LaneState) (pin : ℕ) →
     lane < length lanes → lane < length pins → Announces now state pin → Announces now (get_or lanes other Idle) (get_or pins other 0) →

@@ -1,4 +1,4 @@
--- The steps of the loader keep the rule.
+-- Each step of the loader keeps the rule.
 use Rattle.std.proofs.Common.{◌≡◌, ◌≢◌, ℕ, ◌+◌, ◌<◌, ◌≤◌, ◌||◌, Bool, true, false, List, [], ◌∷◌, ◌++◌, length, take, replicate, get_or, set, Option, Some, None, inl, inr, sym, subst, refl, ap, arith, ◌∙◌}
 use Rattle.std.specs.List.{All}
 use Rattle.std.proofs.lemmas.List.{get_or-set_other, get_or-set_same, length-set, length-replicate, length-take-le, get_or_append_left}
@@ -11,8 +11,8 @@ use Rattle.epoch_core.specs.declared.step.Step.TheVariants.{W1, W2, W3, W4}
 use Rattle.epoch_core.specs.Machine.{Machine, lane_state, pin_of, words_of, image_of, retirement, is_cleared, clearings}
 use Rattle.epoch_core.specs.Steps.{Holds, May, after, stored, is_past, EveryLaneIsCleared}
 use Rattle.epoch_core.specs.Rule.{RegionRule, Announces, IsSpare, IsRetiredSince, BeginsWith}
-use Rattle.epoch_core.proofs.Lists.{read_after_set, is_within}
-use Rattle.epoch_core.proofs.Lanes.{announces_as}
+use Rattle.epoch_core.proofs.ListLaws.{read_after_set, is_within}
+use Rattle.epoch_core.proofs.LaneLaws.{announces_as}
 
 -- a lane that holds something is there
 pub is_there : (m : Machine) (lane epoch version region : ℕ) → Holds m lane epoch version region → lane < length m.lanes

@@ -1,4 +1,4 @@
--- What holds after every list of allowed steps.
+-- After every list of allowed steps the rule holds, versions have not gone down and what a lane holds is whole.
 use Rattle.std.proofs.Common.{◌≡◌, ℕ, ◌<◌, ◌≤◌, List, [], ◌∷◌, length, take, get_or, set, sym, subst, refl, arith, ◌∙◌}
 use Rattle.std.proofs.lemmas.List.{get_or_append_left, get_or-set_other}
 use Rattle.epoch_core.specs.declared.lane.LaneState.{LaneState}
@@ -9,10 +9,10 @@ use Rattle.epoch_core.specs.Machine.{Machine, first, lane_state, words_of, image
 use Rattle.epoch_core.specs.Steps.{Holds, HoldsNothing, May, after, stored, loaded_epoch}
 use Rattle.epoch_core.specs.Rule.{RegionRule, BeginsWith}
 use Rattle.epoch_core.specs.Runs.{run, AreAllowed, IsReached}
-use Rattle.epoch_core.proofs.Lists.{read_after_set, is_within}
-use Rattle.epoch_core.proofs.Lanes.{load_epoch_kept, store_pin_kept, take_hold_kept, let_go_kept}
-use Rattle.epoch_core.proofs.Loader.{store_word_kept, publish_kept, store_epoch_kept, load_pin_kept, is_not_held}
-use Rattle.epoch_core.proofs.First.{first_kept}
+use Rattle.epoch_core.proofs.ListLaws.{read_after_set, is_within}
+use Rattle.epoch_core.proofs.LaneLaws.{load_epoch_kept, store_pin_kept, take_hold_kept, let_go_kept}
+use Rattle.epoch_core.proofs.LoaderLaws.{store_word_kept, publish_kept, store_epoch_kept, load_pin_kept, is_not_held}
+use Rattle.epoch_core.proofs.FirstLaws.{first_kept}
 
 -- each step keeps the rule
 pub kept : (m : Machine) (step : Step) → May m step → RegionRule m → RegionRule (after m step)
