@@ -1,5 +1,5 @@
-pub mod Known
-pub mod Pieces
-pub mod Refusals
-pub mod Copies
-pub mod Opened
+pub mod KnownLaws
+pub mod PieceLaws
+pub mod RefusalLaws
+pub mod CopyLaws
+pub mod OpeningLaws

@@ -112,9 +112,7 @@ impl Library for FileLibrary {
     }
 
     fn more(&mut self, buf: &mut [u8]) -> Result<usize, Failed> {
-        let Some(file) = &mut self.begun else {
-            unreachable!()
-        };
+        let file = self.begun.as_mut().unwrap();
         read_some(file, buf, &mut self.more_faults)
     }
 

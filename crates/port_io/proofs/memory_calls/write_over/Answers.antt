@@ -1,6 +1,6 @@
 use Rattle.std.proofs.Common.{◌≤◌, length, arith}
 use Rattle.std.proofs.lemmas.Grind.{common_steps}
-use Rattle.port_io.proofs.Copies.{written_over}
+use Rattle.port_io.proofs.CopyLaws.{written_over}
 use Rattle.port_io.proofs.memory_calls.write_over.Goals as goal
 
 pub returns-clause-written : goal.returns-clause-written

@@ -1,6 +1,6 @@
 use Rattle.std.proofs.Common.{◌<◌, length, ◌∙◌, arith}
 use Rattle.std.proofs.lemmas.Result.{err_from_is_err_and}
-use Rattle.port_io.proofs.Pieces.{done_more, done_in_part}
+use Rattle.port_io.proofs.PieceLaws.{done_more, done_in_part}
 use Rattle.port_io.proofs.piece.write_piece.Goals as goal
 
 pub loop-rest-preserved : goal.loop-rest-preserved

@@ -1,6 +1,6 @@
 use Rattle.std.proofs.Common.{◌++◌, take, rules}
 use Rattle.std.proofs.lemmas.Result.{err_from_is_err_and}
-use Rattle.port_io.proofs.Refusals.{opens_more, refused_whole, long_exactly}
+use Rattle.port_io.proofs.RefusalLaws.{opens_more, refused_whole, long_exactly}
 use Rattle.port_io.proofs.whole.read_whole.Goals as goal
 
 pub returns-in_err-keep_chunk-clause-taken : goal.returns-in_err-keep_chunk-clause-taken

@@ -1,5 +1,5 @@
 use Rattle.port_io.specs.MemLibrary.{state_of}
-use Rattle.port_io.proofs.Opened.{after_found, after_failing, after_missing}
+use Rattle.port_io.proofs.OpeningLaws.{after_found, after_failing, after_missing}
 use Rattle.port_io.proofs.memory_library.MemLibrary.open_file.Goals as goal
 
 pub returns-in-Some-clause-after : goal.returns-in-Some-clause-after

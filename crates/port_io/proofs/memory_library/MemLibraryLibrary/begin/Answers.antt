@@ -1,5 +1,5 @@
 use Rattle.std.proofs.Common.{List, ℕ, Some, sym, ap, ◌∙◌, refl}
-use Rattle.port_io.proofs.Opened.{opens_found}
+use Rattle.port_io.proofs.OpeningLaws.{opens_found}
 use Rattle.port_io.proofs.memory_library.MemLibraryLibrary.begin.Goals as goal
 
 pub returns-clause-opened : goal.returns-clause-opened

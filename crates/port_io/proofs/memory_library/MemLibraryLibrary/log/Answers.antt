@@ -1,6 +1,6 @@
 use Rattle.std.proofs.Common.{sym}
 use Rattle.port_io.specs.MemLog.{reader_of}
-use Rattle.port_io.proofs.Opened.{fresh_log}
+use Rattle.port_io.proofs.OpeningLaws.{fresh_log}
 use Rattle.port_io.proofs.memory_library.MemLibraryLibrary.log.Goals as goal
 
 pub returns-in-Some-clause-opened : goal.returns-in-Some-clause-opened

@@ -1,4 +1,4 @@
-use Rattle.port_io.proofs.Copies.{left_parted, taken_parted}
+use Rattle.port_io.proofs.CopyLaws.{left_parted, taken_parted}
 use Rattle.port_io.proofs.progress.Progress.read.Goals as goal
 
 pub returns-clause-left : goal.returns-clause-left

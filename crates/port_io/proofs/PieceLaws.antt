@@ -1,9 +1,9 @@
--- A piece that is written part by part.
+-- What was written of a piece, part by part, is the first bytes of the piece.
 use Rattle.std.proofs.Common.{◌≡◌, ℕ, ◌<◌, List, ◌++◌, length, take, Option, refl, sym, ap, ◌∙◌, arith, append_assoc, length-append}
 use Rattle.std.proofs.lemmas.List.{take_at, take_rest, take-append-drop}
 use Rattle.std.specs.List.{between}
 use Rattle.std.specs.Io.KnownBytes.{append_known}
-use Rattle.port_io.proofs.Known.{append_known-append}
+use Rattle.port_io.proofs.KnownLaws.{append_known-append}
 
 -- the first n bytes of the rest join what is done
 pub done_more : (piece done rest : List ℕ) (n : ℕ) (before was now : Option (List ℕ)) → piece ≡ done ++ rest → was ≡ append_known before done → now ≡ append_known was (take n rest) → (more : List ℕ) × (piece ≡ more ++ between n (length rest) rest) × (now ≡ append_known before more)

@@ -1,4 +1,4 @@
--- What `read_whole` answers where a chunk was not kept.
+-- Where a chunk was not kept, `read_whole` answers that the file is too long exactly where it took more than the limit.
 use Rattle.std.proofs.Common.{◌≡◌, ◌↔◌, ℕ, ◌+◌, ◌<◌, List, ◌++◌, length, Option, Result, Err, Vec, refl, ◌∙◌, ap, subst, arith, length-append}
 use Rattle.std.specs.Prelude.{IsErrOf}
 use Rattle.std.specs.declared.alloc.Global.{Global}
@@ -10,7 +10,7 @@ use Rattle.port_io.specs.declared.whole.WholeRefused.TheVariants as whole
 use Rattle.port_io.specs.Library.{OpensFile}
 use Rattle.port_io.specs.Overrun.{whole_refused_of}
 use Rattle.port_io.specs.Transfers.{AnswersTaken}
-use Rattle.port_io.proofs.Known.{prepend_known-prepend}
+use Rattle.port_io.proofs.KnownLaws.{prepend_known-prepend}
 
 -- one more chunk of the file that was opened
 pub opens_more : (files : Option (List (List ℕ × List ℕ))) (name : List ℕ) (was now : Option (List ℕ)) (moved chunk : List ℕ) → OpensFile files name (prepend_known moved was) → was ≡ prepend_known chunk now → OpensFile files name (prepend_known (moved ++ chunk) now)

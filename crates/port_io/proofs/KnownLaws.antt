@@ -1,4 +1,4 @@
--- Bytes that are known or not, one piece after another.
+-- Two pieces one after another are known as one, and an empty piece changes nothing.
 use Rattle.std.proofs.Common.{◌≡◌, ℕ, List, [], ◌++◌, Option, None, Some, refl, sym, ap, append_assoc}
 use Rattle.std.proofs.lemmas.List.{append-nil}
 use Rattle.std.specs.Io.KnownBytes.{prepend_known, append_known}

@@ -1,4 +1,4 @@
--- A file in memory by its name, in the list of files and in the map that they stand for.
+-- A file in memory is found by its name in the list of files exactly where the map of files names it.
 use Rattle.std.proofs.Common.{◌≡◌, ℕ, List, [], ◌∷◌, Bool, true, false, cond, None, Some, string_bytes, refl, sym, ap, ◌∙◌}
 use Rattle.std.specs.Option.{option_map}
 use Rattle.std.specs.Str.{bytes_eq}

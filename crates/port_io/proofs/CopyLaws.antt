@@ -1,4 +1,4 @@
--- Bytes copied from the place that reads have come to.
+-- The bytes copied are those from the place that reads have come to, and the bytes past them are left.
 use Rattle.std.proofs.Common.{◌≡◌, ℕ, ◌+◌, ◌≤◌, List, ◌++◌, length, take, drop, Some, sym, ap, ◌∙◌, arith}
 use Rattle.std.proofs.lemmas.List.{take_rest, take-append-drop, take-append-le, drop-drop}
 use Rattle.std.proofs.Math.Seq.{take-add, take-append-add}
