@@ -15,7 +15,7 @@ pub enum MuxWhy {
     #[error("its chain of parents never ends")]
     Cycle = 3,
     /// More than 8 parents are above it.
-    #[error("more than 8 parents above_it above it")]
+    #[error("more than 8 parents are above it")]
     Deep = 4,
 }
 

@@ -1,14 +1,38 @@
 //! The parent of each signal by the rules of multiplexing.
 
-ghost use Rattle.std.specs.Prelude.{◌≡◌, ◌<◌, IfOk, IfErr, All, slice_get, length};
+ghost use Rattle.std.specs.Prelude.{◌≡◌, ◌<◌, Ok, IfOk, IfErr, All, slice_get, length};
 ghost use Rattle.multiplex_tree.specs.Parents.{is_selector, is_multiplexor, only, selectors, AreParents};
-ghost use Rattle.multiplex_tree.specs.Claims.{claimed_parent, marked_parent};
+ghost use Rattle.multiplex_tree.specs.Claims.{claimed_parent, marked_parent, IsWhyOf};
 ghost use Rattle.multiplex_tree.specs.Fault.{IsFault};
+ghost use Rattle.multiplex_tree.specs.declared.parents.ParentFault.TheVariants as faults;
 
 use crate::claim::{Claim, claims_of};
 use crate::{Link, List, Mark, MuxFault, MuxWhy, Parent, Range};
-use std::alloc::{AllocError, Global};
+use std::alloc::{AllocFailed, Global};
 use std::mem;
+
+/// Why a signal has no parent, or out of memory.
+#[derive(Drop)]
+pub(crate) enum ParentFault {
+    Why(MuxWhy),
+    Memory,
+}
+
+impl From<MuxWhy> for ParentFault {
+    ghost from_gives = { λ why fault. fault ≡ faults.Why why };
+
+    fn from(why: MuxWhy) -> ParentFault {
+        ParentFault::Why(why)
+    }
+}
+
+impl<T: Drop> From<AllocFailed<T>> for ParentFault {
+    ghost from_gives = { λ _ fault. fault ≡ faults.Memory };
+
+    fn from(_: AllocFailed<T>) -> ParentFault {
+        ParentFault::Memory
+    }
+}
 
 /// Whether a mark is that of a multiplexor without group.
 fn is_top_selector(mark: &Mark) -> bool
@@ -47,35 +71,35 @@ fn claim_parent(
     selector: Result<usize, MuxWhy>,
     group: u64,
     claim: Claim,
-) -> Result<Result<Parent, MuxWhy>, AllocError>
+) -> Result<Parent, ParentFault>
     requires { selector ≡ only (selectors marks.now) }
-    ensures { IfOk result (λ found. found ≡ claimed_parent marks.now group claim) }
+    ensures parent { IfOk result (λ parent. claimed_parent marks.now group claim ≡ Ok parent) }
+    ensures why { IfErr result (IsWhyOf (claimed_parent marks.now group claim)) }
 {
     match claim {
-        Claim::Unlinked => match selector {
-            Ok(signal) => Ok(Ok(Parent {
+        Claim::Unlinked => {
+            let signal = selector?;
+            let range = Range {
+                low: group,
+                high: group,
+            };
+            Ok(Parent {
                 signal,
-                ranges: List::of(vec![in alloc;
-                    Range {
-                        low: group,
-                        high: group,
-                    },
-                ]?),
-            })),
-            Err(why) => Ok(Err(why)),
-        },
+                ranges: List::of(vec![in alloc; range]?),
+            })
+        }
         Claim::Linked {
             parent: Some(signal),
             ranges,
         } => {
             if is_parent(marks, signal) {
-                Ok(Ok(Parent { signal, ranges }))
+                Ok(Parent { signal, ranges })
             } else {
-                Ok(Err(MuxWhy::NoParent))
+                Err(ParentFault::Why(MuxWhy::NoParent))
             }
         }
-        Claim::Linked { parent: None, .. } => Ok(Err(MuxWhy::NoParent)),
-        Claim::Divided => Ok(Err(MuxWhy::Ambiguous)),
+        Claim::Linked { parent: None, .. } => Err(ParentFault::Why(MuxWhy::NoParent)),
+        Claim::Divided => Err(ParentFault::Why(MuxWhy::Ambiguous)),
     }
 }
 
@@ -86,13 +110,14 @@ fn parent_of(
     selector: Result<usize, MuxWhy>,
     mark: &Mark,
     claim: Claim,
-) -> Result<Result<Option<Parent>, MuxWhy>, AllocError>
+) -> Result<Option<Parent>, ParentFault>
     requires { selector ≡ only (selectors marks.now) }
-    ensures { IfOk result (λ found. found ≡ marked_parent marks.now claim mark.now.group) }
+    ensures parent { IfOk result (λ parent. marked_parent marks.now claim mark.now.group ≡ Ok parent) }
+    ensures why { IfErr result (IsWhyOf (marked_parent marks.now claim mark.now.group)) }
 {
     match mark.group {
-        None => Ok(Ok(None)),
-        Some(group) => Ok(claim_parent(alloc, marks, selector, group, claim)?.map(Some)),
+        None => Ok(None),
+        Some(group) => Ok(Some(claim_parent(alloc, marks, selector, group, claim)?)),
     }
 }
 
@@ -114,13 +139,13 @@ pub(crate) fn parents_of(
     for (signal, mark) in marks.iter().enumerate() {
         let claim = mem::replace(&mut claims[signal], Claim::Unlinked);
         match parent_of(alloc, marks, selector, mark, claim) {
-            Ok(Ok(parent)) => {
+            Ok(parent) => {
                 let Ok(()) = parents.push(parent) else {
                     return Err(MuxFault::Memory);
                 };
             }
-            Ok(Err(why)) => return Err(MuxFault::At { signal, why }),
-            Err(_) => return Err(MuxFault::Memory),
+            Err(ParentFault::Why(why)) => return Err(MuxFault::At { signal, why }),
+            Err(ParentFault::Memory) => return Err(MuxFault::Memory),
         }
     }
     Ok(parents)
