@@ -3,7 +3,7 @@
 //!
 //! Readers of databases make its values and hand them to `check`; decoders, rings, images and printers speak of its
 //! types. It builds on `exact_scale` (scalings and exact values) and `multiplex_tree` (lists, and which signals are
-//! active). Faster decoders are to be proved equal to `Bench::plain`.
+//! active). `image_words` gives the same meaning, faster, from an image of a bench.
 //!
 //! Main theorem: unless memory runs out, `Bench::plain` gives exactly the meaning of a frame's bytes: the message that
 //! matches, and in file order its signals that are active and whose bits are there, each with its raw value bit by bit,

@@ -2,12 +2,12 @@
 //! of its command line.
 //!
 //! `tool_words` says which command they are; `bench_inputs` opens and reads the files of a bench, `bench_loader` judges
-//! its databases, and `bench_text` prints its buses, each from its log. Here the phases follow one another, and each
-//! way in which they end is a `Status` with a line on the error output. The program `sigserve` hands it the real files
-//! and streams.
+//! its databases, `bench_text` prints its buses, each from its log, and `bench_mill` runs the tool's own workload. Here the
+//! phases follow one another, and each way in which they end is a `Status` with a line on the error output. The program
+//! `sigserve` hands it the real files and streams.
 //!
 //! Main theorem: where the library tells its files, `run_tool` has on Ok appended to its output exactly the tool's
-//! text, a function of the bytes of the files alone, and every other status but out of memory has its cause.
+//! text, a function of its words and of the bytes of the files, and every other status but out of memory has its cause.
 #![tactic(auto)]
 
 mod checking;

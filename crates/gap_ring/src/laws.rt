@@ -1,5 +1,5 @@
 //! What holds of every list of offers to a ring, and of what was taken. Each function is a law: it does
-//! nothing, and its clauses are proved of the definitions that a ring is to keep to.
+//! nothing, and its clauses are proved of the definitions that a ring keeps to.
 
 ghost use Rattle.std.specs.Prelude.{◌≡◌, ◌≢◌, ◌⊎◌, ◌+◌, ◌*◌, ◌<◌, ◌≤◌, ℕ, List, [], ◌∷◌, ◌++◌, length, map};
 ghost use Rattle.std.specs.Prelude.{filter};

@@ -1,6 +1,6 @@
-//! Rings that state their gaps: between the thread that decodes a bus and a thread that serves a subscriber
-//! is a ring, from which a slow subscriber misses records without holding up the bus, and which counts
-//! exactly what it missed.
+//! Rings that state their gaps: a ring lies between the thread that decodes a bus and a thread that serves a
+//! subscriber. A slow subscriber misses records without holding up the bus, and the ring counts exactly what it
+//! missed.
 //!
 //! It takes records and items from `bench_model` and builds on the kit's `atomic_table`: the items lie in the
 //! slots of a table, beside the words head, tail, end and attach and three gap words. The decoding of a bus

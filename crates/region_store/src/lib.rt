@@ -6,7 +6,8 @@
 //! an image is. A version is read through `Words`.
 //!
 //! Main theorem: whatever the loader and the other lanes do in between, the words that a lane reads under one pin
-//! are words of one image that fits all of them, the last one published when the pin was made.
+//! are words of one image that fits all of them, the last one published when the pin was made; and a publication adds
+//! one whole image, the next version, or is refused with its reason.
 #![tactic(auto)]
 
 mod closing;
