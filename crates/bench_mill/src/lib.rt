@@ -6,14 +6,17 @@
 //! frame. What prints the three lines is above it.
 //!
 //! Main theorem: unless memory runs out, `mill` answers how many frames of the log a message matches, how many signals they
-//! have, and the sum of their raw values, all by the plain meaning of the log's lines.
+//! have, and the sum of their raw values, all by the plain meaning of the log's lines; and a law says that these lines are the
+//! frames of the generator, each of a message with four signals.
 #![tactic(auto)]
 
 mod image;
+mod laws;
 mod run;
 mod text;
 mod totals;
 
+pub use laws::the_log_is_the_frames_of_the_generator;
 pub use run::mill;
 pub use text::append_totals;
 pub use totals::Totals;
