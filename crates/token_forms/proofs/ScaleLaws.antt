@@ -1,7 +1,7 @@
 -- A factor and an offset have one scale, or are too wide: one of them has no decimal within the limits, or has none over the
 -- common power of ten.
-use Rattle.std.proofs.Common.{◌≡◌, ◌∙◌, sym, subst, refl, ℕ, ◌-◌, ◌*◌, ◌^◌, ◌<◌, ◌≤◌, max, ◌⊎◌, inl, inr, List, ℤ, pos, true, false, arith}
-use Rattle.std.specs.Prelude.{nat_lt, unsigned_abs}
+use Rattle.std.proofs.Common.{Result, Ok, Err, ◌≡◌, ◌∙◌, sym, ap, subst, refl, ℕ, ◌-◌, ◌*◌, ◌^◌, ◌<◌, ◌≤◌, max, ◌⊎◌, inl, inr, List, ℤ, pos, true, false, arith}
+use Rattle.std.specs.Prelude.{nat_lt, unsigned_abs, IsErr, IsErrAnd}
 use Rattle.std.proofs.Math.Nat.{le-mul_of_pos_right, one-le-pow}
 use Rattle.std.proofs.lemmas.Bool.Decides.{nat_tests}
 use Rattle.std.proofs.lemmas.Int.{unsigned_abs-mul}
@@ -44,6 +44,11 @@ no_offset factor offset none scale s =
     let over : IsScale (scale_over s.factor_num s.factor_places s.offset_num s.offset_places) = subst IsScale s.scale_is s.within in
     too_wide (max s.factor_places s.offset_places) s.offset_num s.offset_places (none s.offset_num s.offset_places s.offset_denoted)
     over.places (omega arith) over.offset
+
+-- the error that `?` passes on is the one that it was given
+pub same_error : {T E : Type 0} (r : Result T E) (e : E) → IsErr r × IsErrAnd r (λ x. x ≡ e) → r ≡ Err e
+same_error (Ok x) e h = absurd h.1
+same_error (Err y) e h = ap Err h.1
 
 pub factor_refuses : (factor offset : List ℕ) (fault : NumberFault) → IsNoDecimal factor fault → IsNoScale factor offset fault
 factor_refuses factor offset Wide none = no_factor factor offset none

@@ -21,14 +21,8 @@ pub fn scale_of(
     ensures wide { IfErr result (IsNoScale (signed_text bytes.now factor) (signed_text bytes.now offset)) }
 {
     decimal_is_unique();
-    let factor = match decimal_of(alloc, bytes, factor) {
-        Ok(factor) => factor,
-        Err(fault) => return Err(fault),
-    };
-    let offset = match decimal_of(alloc, bytes, offset) {
-        Ok(offset) => offset,
-        Err(fault) => return Err(fault),
-    };
+    let factor = decimal_of(alloc, bytes, factor)?;
+    let offset = decimal_of(alloc, bytes, offset)?;
     match Scale::new(factor, offset) {
         Ok(scale) => Ok(scale),
         Err(_wide) => Err(NumberFault::Wide),
