@@ -2,6 +2,7 @@
 use Rattle.std.specs.Prelude.{ℕ, ◌==◌, ◌&&◌, Bool, true, false, not, List, [], ◌∷◌, length, codes, nat_le, nat_lt, Option, Some, None, if◌then◌else◌}
 use Rattle.std.specs.List.{list_all}
 use Rattle.std.specs.Str.{bytes_eq, is_utf8}
+use Rattle.byte_forms.specs.Bytes.{hash, digit_zero}
 use Rattle.byte_forms.specs.declared.class.Class.TheVariants as classes
 use Rattle.byte_forms.specs.declared.numerals.Radix.TheVariants as radixes
 use Rattle.byte_forms.specs.Classes.{is_in}
@@ -65,7 +66,7 @@ bus_line words = OtherForm
 -- a zero with digits behind it
 abbrev pub has_leading_zero : List ℕ → Bool
 has_leading_zero [] = false
-has_leading_zero (b ∷ bs) = b == 48 && not (is_empty bs)
+has_leading_zero (b ∷ bs) = b == digit_zero && not (is_empty bs)
 
 -- a number that is in the range below its greatest one
 abbrev pub from_least : Setting → Option ℕ → LineMeaning
@@ -87,7 +88,7 @@ words_meaning (word ∷ words) = if bytes_eq word (codes "bus") then bus_line wo
 -- a line whose first byte is `#`
 abbrev pub is_comment : List ℕ → Bool
 is_comment [] = false
-is_comment (b ∷ bs) = b == 35
+is_comment (b ∷ bs) = b == hash
 
 -- what a line says; one that is too long is of another form, also where it is else passed over
 abbrev pub meaning_of : List ℕ → LineMeaning

@@ -77,7 +77,7 @@ fn take_records(
     ensures same { decoder.new ≡ record decoder.old { next = decoder.new.next } }
 {
     if matched {
-        return Ok(decoder.transported(0, line, brought, whole));
+        return Ok(decoder.transport_record(0, line, brought, whole));
     }
     let records = decoder.records(0, line, None, brought, whole)?;
     printer.append(records.own)?;

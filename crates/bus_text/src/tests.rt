@@ -1,6 +1,6 @@
 //! What no clause says: that calls succeed with ample memory, and that the worked logs have their texts, read and
 //! written in pieces of any size, and as far as reads and writes succeed.
-ghost use Rattle.std.specs.Prelude.{◌≡◌, ◌≤◌, false, length, IfOk};
+ghost use Rattle.std.specs.Prelude.{◌≡◌, ◌≤◌, ◌<◌, false, length, IfOk};
 
 mod cases;
 mod databases;
@@ -69,36 +69,84 @@ fn log_of(alloc: Global, log: &[u8], pieces: Pieces) -> Result<MemSource, Fail>
     ))
 }
 
-/// What was written of the text of a log, which starts anew in an empty buffer, and how that ended.
+/// A sink of this room that is written in such pieces.
+fn sink_of(alloc: Global, pieces: Pieces, room: usize) -> Result<MemSink, Fail>
+    requires { 1 ≤ pieces.write }
+{
+    Ok(MemSink::new(
+        vec![in alloc; 0; room]?,
+        pieces.write,
+        Vec::from_slice(alloc, pieces.failing_writes)?,
+    ))
+}
+
+/// Wants that cover all of these buses.
+fn wants_of(alloc: Global, names: &[&[u8]]) -> Result<Wants, Fail> {
+    let mut buses = Vec::new(alloc);
+    for name in names {
+        buses.push(Text::of(alloc, name)?)?;
+    }
+    Ok(Wants::all(alloc, &buses)?)
+}
+
+/// What a print of a log left: how it ended, what was written, and the log.
+#[derive(Drop)]
+struct Outcome {
+    end: Result<(), BusRefused>,
+    sink: MemSink,
+    log: MemSource,
+}
+
+/// Prints a log of the bus of a case, whose text starts anew in an empty buffer.
+fn print_into(
+    alloc: Global,
+    case: &Case,
+    log: MemSource,
+    sink: &mut MemSink,
+) -> Result<Printed<MemSource>, Fail>
+    requires { ⟦<MemSource as Source>⟧.ended log ≡ false }
+{
+    let mut image = image_of(alloc, case)?;
+    let wants = wants_of(alloc, &[case.bus])?;
+    let mut buffer = TextBuffer::new(alloc)?;
+    let printed = print_bus(alloc, &mut image, 0, &wants, log, &mut buffer, sink);
+    if printed.end.is_ok() {
+        return Ok(Printed {
+            log: printed.log,
+            end: flushed(&mut buffer, sink),
+        });
+    }
+    Ok(printed)
+}
+
+/// How the end of a print ends.
+fn flushed(buffer: &mut TextBuffer, sink: &mut MemSink) -> Result<(), BusRefused> {
+    match buffer.flush(sink) {
+        Ok(()) => Ok(()),
+        Err(_) => Err(BusRefused::WriteFault),
+    }
+}
+
+/// What a print of a log left.
 fn print_log(
     alloc: Global,
     case: &Case,
     log: &[u8],
     pieces: Pieces,
     room: usize,
-) -> Result<(MemSink, Result<(), BusRefused>), Fail>
+) -> Result<Outcome, Fail>
     requires read { 1 ≤ pieces.read }
     requires write { 1 ≤ pieces.write }
 {
-    let mut image = image_of(alloc, case)?;
-    let names = vec![in alloc; Text::of(alloc, case.bus)?]?;
-    let wants = Wants::all(alloc, &names)?;
-    let log = log_of(alloc, log, pieces)?;
-    let mut sink = MemSink::new(
-        vec![in alloc; 0; room]?,
-        pieces.write,
-        Vec::from_slice(alloc, pieces.failing_writes)?,
-    );
-    let mut buffer = TextBuffer::new(alloc)?;
-    let printed = print_bus(alloc, &mut image, 0, &wants, log, &mut buffer, &mut sink);
-    let end = match printed.end {
-        Ok(()) => match buffer.flush(&mut sink) {
-            Ok(()) => Ok(()),
-            Err(_) => Err(BusRefused::WriteFault),
-        },
-        Err(refused) => Err(refused),
-    };
-    Ok((sink, end))
+    let mut sink = sink_of(alloc, pieces, room)?;
+    let Printed { log, end } = print_into(alloc, case, log_of(alloc, log, pieces)?, &mut sink)?;
+    Ok(Outcome { end, sink, log })
+}
+
+/// The print of a log ended so, and this was written.
+fn assert_outcome(rt: &impl Abort, outcome: &Outcome, end: Result<(), BusRefused>, text: &[u8]) {
+    assert_eq!(rt; outcome.end, end);
+    assert_eq!(rt; outcome.sink.bytes(), text);
 }
 
 /// The log of a case has its text, read and written in these pieces.
@@ -117,9 +165,8 @@ fn assert_text(
         write,
         ..WHOLE
     };
-    let (sink, end) = print_log(alloc, case, case.log.as_bytes(), pieces, 4_096)?;
-    assert_eq!(rt; end, Ok(()));
-    assert_eq!(rt; sink.bytes(), case.text.as_bytes());
+    let outcome = print_log(alloc, case, case.log.as_bytes(), pieces, 4_096)?;
+    assert_outcome(rt, &outcome, Ok(()), case.text.as_bytes());
     Ok(())
 }
 
@@ -198,9 +245,9 @@ fn assert_stop(
         failing_reads,
         ..WHOLE
     };
-    let (sink, end) = print_log(alloc, &FRAMES, FRAMES.log.as_bytes(), pieces, 4_096)?;
-    assert_eq!(rt; end, Err(BusRefused::ReadFault));
-    assert_eq!(rt; sink.bytes(), first_lines(FRAMES.text, lines));
+    let outcome = print_log(alloc, &FRAMES, FRAMES.log.as_bytes(), pieces, 4_096)?;
+    let text = first_lines(FRAMES.text, lines);
+    assert_outcome(rt, &outcome, Err(BusRefused::ReadFault), text);
     Ok(())
 }
 
@@ -219,68 +266,78 @@ fn a_read_that_fails_within_a_line_leaves_that_line_out(rt: HostRuntime) -> Resu
     assert_stop(&rt, rt.alloc(), 30, &[4], 5)
 }
 
-/// What the log still has to give after a print of it.
-fn left_of_log(alloc: Global, pieces: Pieces) -> Result<(Result<(), BusRefused>, Vec<u8>), Fail>
-    requires { 1 ≤ pieces.read }
+/// A print of the frames ends so, and the log still has this to give.
+fn assert_left(
+    rt: &impl Abort,
+    alloc: Global,
+    pieces: Pieces,
+    end: Result<(), BusRefused>,
+    left: &[u8],
+) -> Result<(), Fail>
+    requires read { 1 ≤ pieces.read }
+    requires write { 1 ≤ pieces.write }
 {
-    let mut image = image_of(alloc, &FRAMES)?;
-    let names = vec![in alloc; Text::of(alloc, FRAMES.bus)?]?;
-    let wants = Wants::all(alloc, &names)?;
-    let log = log_of(alloc, FRAMES.log.as_bytes(), pieces)?;
-    let mut sink = MemSink::new(vec![in alloc; 0; 4_096]?, 4_096, Vec::new(alloc));
-    let mut buffer = TextBuffer::new(alloc)?;
-    let Printed { mut log, end } = print_bus(
-        alloc,
-        &mut image,
-        0,
-        &wants,
-        log,
-        &mut buffer,
-        &mut sink,
-    );
-    let mut left = vec![in alloc; 0; 256]?;
-    let count = log.read(&mut left)?;
-    left.truncate(count);
-    Ok((end, left))
+    let mut outcome = print_log(alloc, &FRAMES, FRAMES.log.as_bytes(), pieces, 4_096)?;
+    assert_eq!(rt; outcome.end, end);
+    let mut rest = vec![in alloc; 0; 256]?;
+    let count = outcome.log.read(&mut rest)?;
+    rest.truncate(count);
+    assert_eq!(rt; rest.as_slice(), left);
+    Ok(())
 }
 
 #[test]
 fn the_log_comes_back_with_the_bytes_that_were_not_taken(rt: HostRuntime) -> Result<(), Fail> {
-    let (end, left) = left_of_log(rt.alloc(), WHOLE)?;
-    assert_eq!(rt; end, Ok(()));
-    assert!(rt; left.is_empty());
+    assert_left(&rt, rt.alloc(), WHOLE, Ok(()), b"")?;
     let pieces = Pieces {
         read: 50,
         failing_reads: &[1],
         ..WHOLE
     };
-    let (end, left) = left_of_log(rt.alloc(), pieces)?;
-    assert_eq!(rt; end, Err(BusRefused::ReadFault));
-    assert_eq!(rt; left.as_slice(), &FRAMES.log.as_bytes()[50..100]);
+    let left = &FRAMES.log.as_bytes()[50..100];
+    assert_left(&rt, rt.alloc(), pieces, Err(BusRefused::ReadFault), left)
+}
+
+/// Prints the log of a case as that of the bus at this place.
+fn print_at(
+    alloc: Global,
+    image: &mut BenchImage,
+    place: u32,
+    case: &Case,
+    buffer: &mut TextBuffer,
+    sink: &mut MemSink,
+) -> Result<(), Fail>
+    requires { place < length image.old.buses }
+    ensures { image.new ≡ image.old }
+{
+    let wants = wants_of(alloc, &[FRAME.bus, TANK.bus])?;
+    let log = log_of(alloc, case.log.as_bytes(), WHOLE)?;
+    print_bus(alloc, image, place, &wants, log, buffer, sink).end?;
     Ok(())
 }
 
 /// Two buses printed through one buffer, the second behind the text of the first, which is still pending.
-fn print_two(alloc: Global, first: &Case, second: &Case) -> Result<MemSink, Fail> {
-    let mut image = image_of_two(alloc, first, second)?;
-    let names = vec![in alloc; Text::of(alloc, first.bus)?, Text::of(alloc, second.bus)?]?;
-    let wants = Wants::all(alloc, &names)?;
-    let mut sink = MemSink::new(vec![in alloc; 0; 4_096]?, 4_096, Vec::new(alloc));
+fn print_two(alloc: Global, sink: &mut MemSink) -> Result<(), Fail> {
+    let mut image = image_of_two(alloc, &FRAME, &TANK)?;
     let mut buffer = TextBuffer::new(alloc)?;
-    let log = log_of(alloc, first.log.as_bytes(), WHOLE)?;
-    print_bus(alloc, &mut image, 0, &wants, log, &mut buffer, &mut sink).end?;
-    let log = log_of(alloc, second.log.as_bytes(), WHOLE)?;
-    print_bus(alloc, &mut image, 1, &wants, log, &mut buffer, &mut sink).end?;
-    buffer.flush(&mut sink)?;
-    Ok(sink)
+    print_at(alloc, &mut image, 0, &FRAME, &mut buffer, sink)?;
+    print_at(alloc, &mut image, 1, &TANK, &mut buffer, sink)?;
+    buffer.flush(sink)?;
+    Ok(())
+}
+
+/// One text behind another.
+fn text_of_two(alloc: Global, first: &str, second: &str) -> Result<String, Fail> {
+    let mut text = String::from_str(alloc, first)?;
+    text.push_str(second)?;
+    Ok(text)
 }
 
 #[test]
 fn two_buses_are_decoded_under_databases_of_their_own(rt: HostRuntime) -> Result<(), Fail> {
-    let alloc = rt.alloc();
-    let sink = print_two(alloc, &FRAME, &TANK)?;
-    let mut text = String::from_str(alloc, FRAME.text)?;
-    text.push_str(TANK.text)?;
+    let mut sink = sink_of(rt.alloc(), WHOLE, 4_096)?;
+    print_two(rt.alloc(), &mut sink)?;
+    let text = text_of_two(rt.alloc(), FRAME.text, TANK.text)?;
     assert_eq!(rt; sink.bytes(), text.as_bytes());
     Ok(())
 }
@@ -288,14 +345,27 @@ fn two_buses_are_decoded_under_databases_of_their_own(rt: HostRuntime) -> Result
 /// How many empty lines make a text of several times what a buffer takes.
 const MANY: usize = 20_000;
 
+/// Appends a number between two words.
+fn push_numbered(
+    alloc: Global,
+    text: &mut String,
+    before: &str,
+    number: usize,
+    behind: &str,
+) -> Result<(), Fail> {
+    text.push_str(before)?;
+    text.push_str(format!(in alloc; "{number}")?.as_str())?;
+    text.push_str(behind)?;
+    Ok(())
+}
+
 /// The text of that many empty lines, which are bad ones.
 fn text_of_bad_lines(alloc: Global) -> Result<String, Fail> {
-    let mut text = String::new(alloc);
-    text.push_str("start A 0\n")?;
+    let mut text = String::from_str(alloc, "start A 0\n")?;
     for number in 0..MANY {
-        text.push_str(format!(in alloc; "x A {number} 0\n")?.as_str())?;
+        push_numbered(alloc, &mut text, "x A ", number, " 0\n")?;
     }
-    text.push_str(format!(in alloc; "end A {MANY}\n")?.as_str())?;
+    push_numbered(alloc, &mut text, "end A ", MANY, "\n")?;
     Ok(text)
 }
 
@@ -313,10 +383,11 @@ fn assert_long(
         failing_writes,
         ..WHOLE
     };
-    let (sink, ended) = print_log(alloc, &EMPTY, &log, pieces, 1_000_000)?;
-    assert_eq!(rt; ended, end);
-    assert!(rt; text.as_bytes().starts_with(sink.bytes()));
-    assert!(rt; sink.bytes().len() >= least);
+    let outcome = print_log(alloc, &EMPTY, &log, pieces, 1_000_000)?;
+    assert_eq!(rt; outcome.end, end);
+    let written = outcome.sink.bytes();
+    assert!(rt; text.as_bytes().starts_with(written));
+    assert!(rt; written.len() >= least);
     Ok(())
 }
 

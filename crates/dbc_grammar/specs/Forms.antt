@@ -114,10 +114,13 @@ unkept_at text tokens =
     version_at text tokens <|> (symbols_at text tokens <|> (timing_at text tokens <|> (nodes_at text tokens
     <|> (variable_texts_at text tokens <|> (lenient_texts_at text tokens <|> other_at text tokens)))))
 
+abbrev pub capital_m : ℕ
+capital_m = 77
+
 -- M, m and digits, or m, digits and M, with digits of at most 32 bits
 abbrev pub without_last_M : List ℕ → Option (List ℕ)
 without_last_M text =
-    if nat_lt 0 (length text) && (slice_index text (length text - 1) == 77) then Some (take (length text - 1) text) else None
+    if nat_lt 0 (length text) && (slice_index text (length text - 1) == capital_m) then Some (take (length text - 1) text) else None
 
 abbrev pub group_mark : Bool → ℕ → Mark
 group_mark multiplexor n = record { multiplexor = multiplexor; group = Some n }

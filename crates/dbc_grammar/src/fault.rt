@@ -17,7 +17,7 @@ pub enum DbcFault {
     #[error("{fault}")]
     Lex { fault: LexFault },
     /// The token at this byte is the first after the longest run of whole statements.
-    #[error("no whole statement parses at byte {at}")]
+    #[error("no whole statement begins at byte {at}")]
     Statement { at: usize },
     /// The `SG_` of the first signal whose factor and offset are too wide.
     #[error("the scaling of the signal at byte {at} is past the limits")]

@@ -130,7 +130,7 @@ fn messages_of(
 }
 
 /// The valid database of the messages.
-fn checked(alloc: Global, database: Database) -> Result<Valid, DbcFault>
+fn check_database(alloc: Global, database: Database) -> Result<Valid, DbcFault>
     requires { IsMadeDatabase database }
     ensures ok { IfOk result (λ valid. valid.database ≡ database) }
     ensures valid { IfOk result (λ valid. IsValid valid.database) }
@@ -170,7 +170,7 @@ fn build_database(alloc: Global, bytes: &[u8], kept: Kept) -> Result<Valid, DbcF
         Ok(messages) => messages,
         Err(fault) => return Err(fault),
     };
-    checked(
+    check_database(
         alloc,
         Database {
             messages: List::of(messages),

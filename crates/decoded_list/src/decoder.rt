@@ -185,14 +185,14 @@ impl BusDecoder {
     {
         let body = own_body(self.alloc, line, said)?;
         let own = self.reading(version, line, body);
-        let transported = self.transported(version, line, brought, whole);
+        let transported = self.transport_record(version, line, brought, whole);
         Ok(Records { own, transported })
     }
 
     /// Counts a line's own record, which is not made, and gives the record of what the transport protocol brought at the
     /// line, where `brought` is that and `whole` what the databases say to it. So a caller may print the own record
     /// without making it.
-    pub fn transported(
+    pub fn transport_record(
         &mut self,
         version: u32,
         line: &LogLine,

@@ -1,7 +1,9 @@
 //! The records of worked logs.
 
 ghost use Rattle.std.specs.Prelude.{◌≡◌, ◌<◌, ◌+◌, ◌^◌, length, All, IfOk};
-ghost use Rattle.bench_model.specs.Limits.{IsMade};
+ghost use Rattle.exact_scale.specs.Limits.{IsScale};
+ghost use Rattle.multiplex_tree.specs.Trees.{IsTreeOver};
+ghost use Rattle.bench_model.specs.Limits.{IsMade, IsCoding};
 ghost use Rattle.bench_model.specs.Check.{IsValid};
 
 use crate::{BusDecoder, Records};
@@ -9,7 +11,7 @@ use bench_model::*;
 use candump_log::{LogLine, line};
 use exact_scale::Decimal;
 use j1939_tp::TpOut;
-use multiplex_tree::{List, Mark, resolve};
+use multiplex_tree::{List, Mark, Tree, resolve};
 use std::alloc::{AllocError, Global};
 use std::process::Abort;
 use std::test::Fail;
@@ -188,32 +190,62 @@ const CASES: &[Case] = &[
     },
 ];
 
-/// A message of the group FECA with a signal in its last byte.
-fn lamps(alloc: Global) -> Result<Message, Fail>
-    ensures { IfOk result IsMade }
+/// A scaling that changes nothing.
+fn no_scaling() -> Result<Scale, Fail>
+    ensures { IfOk result IsScale }
 {
     let one = Decimal::read(b"1")?;
     let nothing = Decimal::read(b"0")?;
-    let signal = Signal {
-        name: Text::of(alloc, b"Last")?,
+    Ok(Scale::new(one, nothing)?)
+}
+
+fn text_of(alloc: Global, bytes: &[u8]) -> Result<Text, AllocError> {
+    Text::of(alloc, bytes)
+}
+
+/// A signal in the tenth byte.
+fn last(alloc: Global) -> Result<Signal, Fail>
+    ensures { IfOk result (λ signal. IsCoding signal.coding) }
+{
+    let scale = no_scaling()?;
+    let unit = text_of(alloc, b"")?;
+    let labels = List::of(Vec::new(alloc));
+    let name = text_of(alloc, b"Last")?;
+    Ok(Signal {
+        name,
         start: 72,
         size: 8,
         order: Order::Intel,
         signed: false,
         float: false,
         coding: Coding::Scaled {
-            scale: Scale::new(one, nothing)?,
-            unit: Text::of(alloc, b"")?,
-            labels: List::of(Vec::new(alloc)),
+            scale,
+            unit,
+            labels,
         },
-    };
+    })
+}
+
+/// The tree of one signal.
+fn tree_of_one(alloc: Global) -> Result<Tree, Fail>
+    ensures { IfOk result (λ tree. IsTreeOver 1 tree.parents) }
+{
     let mark = Mark {
         multiplexor: false,
         group: None,
     };
-    let tree = resolve(alloc, &[mark], &[])?;
+    Ok(resolve(alloc, &[mark], &[])?)
+}
+
+/// A message of the group FECA with a signal in its last byte.
+fn lamps(alloc: Global) -> Result<Message, Fail>
+    ensures { IfOk result IsMade }
+{
+    let tree = tree_of_one(alloc)?;
+    let name = text_of(alloc, b"Lamps")?;
+    let signal = last(alloc)?;
     Ok(Message {
-        name: Text::of(alloc, b"Lamps")?,
+        name,
         key: Key {
             extended: true,
             id: 0x18fe_ca00,
@@ -252,50 +284,95 @@ fn bench_of(alloc: Global, kind: Kind, described: bool) -> Result<Bench, Fail>
     })
 }
 
-/// Bytes in hexadecimal digits.
-fn hexadecimal(alloc: Global, bytes: &[u8]) -> Result<String, AllocError> {
-    let mut digits = String::new(alloc);
+/// Appends bytes in hexadecimal digits.
+fn push_hexadecimal(alloc: Global, text: &mut String, bytes: &[u8]) -> Result<(), AllocError> {
     for byte in bytes {
-        digits.push_str(format!(in alloc; "{:02X}", byte)?.as_str())?;
+        text.push_str(format!(in alloc; "{:02X}", byte)?.as_str())?;
     }
-    Ok(digits)
+    Ok(())
 }
 
-/// The signals of a record, each with its raw value.
-fn signal_words(alloc: Global, name: &Text, signals: &[SignalValue]) -> Result<String, Fail> {
-    let mut words = String::new(alloc);
-    words.push_str(format!(in alloc; "{}", name_of(alloc, name)?)?.as_str())?;
-    for signal in signals {
-        words.push_str(format!(in alloc;
-            " {} {}",
-            name_of(alloc, &signal.name)?,
-            signal.raw
-        )?.as_str())?;
-    }
-    Ok(words)
+fn push_number(alloc: Global, text: &mut String, number: i128) -> Result<(), AllocError> {
+    text.push_str(format!(in alloc; "{number}")?.as_str())
 }
 
-/// A name of ASCII letters.
-fn name_of(alloc: Global, name: &Text) -> Result<String, Fail> {
-    let mut letters = String::new(alloc);
+/// Appends a space and a name of ASCII letters.
+fn push_name(text: &mut String, name: &Text) -> Result<(), AllocError> {
+    text.push_str(" ")?;
     for byte in name.bytes() {
-        letters.push(char::from(*byte))?;
+        text.push(char::from(*byte))?;
     }
-    Ok(letters)
+    Ok(())
 }
 
-/// What a record says, in words.
-fn words_of(alloc: Global, body: &Body) -> Result<String, Fail> {
-    Ok(match body {
+/// Appends the name of a message and its signals, each with its raw value.
+fn push_signals(
+    alloc: Global,
+    text: &mut String,
+    name: &Text,
+    signals: &[SignalValue],
+) -> Result<(), AllocError> {
+    push_name(text, name)?;
+    for signal in signals {
+        push_name(text, &signal.name)?;
+        text.push_str(" ")?;
+        push_number(alloc, text, signal.raw)?;
+    }
+    Ok(())
+}
+
+/// Appends a word and the numbers of a session.
+fn push_session(
+    alloc: Global,
+    text: &mut String,
+    word: &str,
+    numbers: [u32; 3],
+) -> Result<(), AllocError> {
+    text.push_str(word)?;
+    for number in numbers {
+        text.push_str(" ")?;
+        push_number(alloc, text, i128::from(number))?;
+    }
+    Ok(())
+}
+
+fn push_cause(alloc: Global, text: &mut String, cause: CutCause) -> Result<(), AllocError> {
+    text.push_str(format!(in alloc; " {:?}", cause)?.as_str())
+}
+
+/// Appends what a message of several packets says.
+fn push_transported(
+    alloc: Global,
+    text: &mut String,
+    bytes: &[u8],
+    name: Option<&Text>,
+    signals: &[SignalValue],
+) -> Result<(), AllocError> {
+    text.push_str(" ")?;
+    push_hexadecimal(alloc, text, bytes)?;
+    match name {
+        Some(name) => push_signals(alloc, text, name, signals),
+        None => Ok(()),
+    }
+}
+
+/// Appends what a record says, in words.
+fn push_body(alloc: Global, text: &mut String, body: &Body) -> Result<(), AllocError> {
+    match body {
         Body::Message { name, signals } => {
-            format!(in alloc; "message {}", signal_words(alloc, name, signals.items())?)?
+            text.push_str("message")?;
+            push_signals(alloc, text, name, signals.items())
         }
         Body::Unmatched { bytes, .. } => {
-            format!(in alloc; "unmatched {}", hexadecimal(alloc, bytes.bytes())?)?
+            text.push_str("unmatched ")?;
+            push_hexadecimal(alloc, text, bytes.bytes())
         }
-        Body::Remote { .. } => format!(in alloc; "remote")?,
-        Body::Error { id } => format!(in alloc; "error {}", id)?,
-        Body::Bad => format!(in alloc; "bad")?,
+        Body::Remote { .. } => text.push_str("remote"),
+        Body::Error { id } => {
+            text.push_str("error ")?;
+            push_number(alloc, text, i128::from(*id))
+        }
+        Body::Bad => text.push_str("bad"),
         Body::Transport {
             pgn,
             sa,
@@ -304,26 +381,38 @@ fn words_of(alloc: Global, body: &Body) -> Result<String, Fail> {
             name,
             signals,
         } => {
-            let bytes = hexadecimal(alloc, bytes.bytes())?;
-            match name {
-                Some(name) => {
-                    let words = signal_words(alloc, name, signals.items())?;
-                    format!(in alloc; "transport {} {} {} {} {}", pgn, sa, da, bytes, words)?
-                }
-                None => format!(in alloc; "transport {} {} {} {}", pgn, sa, da, bytes)?,
-            }
+            push_session(
+                alloc,
+                text,
+                "transport",
+                [*pgn, u32::from(*sa), u32::from(*da)],
+            )?;
+            push_transported(alloc, text, bytes.bytes(), name.as_ref(), signals.items())
         }
         Body::Cut { pgn, sa, da, cause } => {
-            format!(in alloc; "cut {} {} {} {:?}", pgn, sa, da, cause)?
+            push_session(alloc, text, "cut", [*pgn, u32::from(*sa), u32::from(*da)])?;
+            push_cause(alloc, text, *cause)
         }
-    })
+    }
 }
 
-fn write_record(alloc: Global, record: &Reading, text: &mut String) -> Result<(), Fail> {
-    let words = words_of(alloc, &record.body)?;
-    let head = format!(in alloc; "{}v{} {}", record.number, record.version, record.micros)?;
-    text.push_str(format!(in alloc; "{} {}; ", head, words)?.as_str())?;
-    Ok(())
+fn write_record(alloc: Global, record: &Reading, text: &mut String) -> Result<(), AllocError> {
+    push_number(alloc, text, i128::from(record.number))?;
+    text.push_str("v")?;
+    push_number(alloc, text, i128::from(record.version))?;
+    text.push_str(" ")?;
+    push_number(alloc, text, i128::from(record.micros))?;
+    text.push_str(" ")?;
+    push_body(alloc, text, &record.body)?;
+    text.push_str("; ")
+}
+
+fn write_records(alloc: Global, records: &Records, text: &mut String) -> Result<(), AllocError> {
+    write_record(alloc, &records.own, text)?;
+    match &records.transported {
+        Some(record) => write_record(alloc, record, text),
+        None => Ok(()),
+    }
 }
 
 /// The records of a line under this version.
@@ -355,16 +444,9 @@ fn records_of(rt: &impl Abort, alloc: Global, case: &Case) -> Result<String, Fai
     for (version, words) in case.lines {
         assert!(rt; decoder.next_number() < 1_000);
         let line = line(words.as_bytes());
-        let Records { own, transported } = step_under(
-            &mut decoder,
-            (&bare, &described),
-            *version,
-            &line,
-        )?;
-        write_record(alloc, &own, &mut text)?;
-        if let Some(record) = transported {
-            write_record(alloc, &record, &mut text)?;
-        }
+        let benches = (&bare, &described);
+        let records = step_under(&mut decoder, benches, *version, &line)?;
+        write_records(alloc, &records, &mut text)?;
     }
     Ok(text)
 }

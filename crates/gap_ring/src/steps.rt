@@ -99,10 +99,8 @@ pub(crate) fn put_lead(ring: &Ring, seat: &mut Place, slot: usize, tail: u64, it
     ensures put { seat.new.me
         ≡ (record seat.old.me.0 { putting = lead_put item tail seat.old.me.0.putting }, []) }
 {
-    match ring.shared.exchange(seat, slot, Some(item)) {
-        None => {}
-        Some(_) => unreachable!(),
-    }
+    let before = ring.shared.exchange(seat, slot, Some(item));
+    prove!(before.is_none());
     ring.shared.store::<PutLead>(seat, TAIL, tail);
 }
 
@@ -116,13 +114,10 @@ pub(crate) fn put_record(ring: &Ring, seat: &mut Place, slot: usize, tail: u64, 
     ensures put { seat.new.me
         ≡ (record seat.old.me.0 { putting = record_put reading tail seat.old.me.0.putting }, []) }
 {
-    match ring
+    let before = ring
         .shared
-        .exchange(seat, slot, Some(Item::Reading { reading }))
-    {
-        None => {}
-        Some(_) => unreachable!(),
-    }
+        .exchange(seat, slot, Some(Item::Reading { reading }));
+    prove!(before.is_none());
     ring.shared.store::<PutRecord>(seat, TAIL, tail);
 }
 

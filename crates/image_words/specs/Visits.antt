@@ -9,12 +9,14 @@ Run step a [] b = b ≡ a
 Run {S = S} step a (x ∷ xs) b = (m : S) × step a x m × Run step m xs b
 
 -- the visitor was given what bytes mean as a message
-pub record IsGiven {V : Type 0} (names : V → List ℕ → V → Type 0) (takes : V → SignalValue → V → Type 0) (old : V) (plain : Plain) (new : V) : Type 0 where
+pub record IsGiven {V : Type 0} (names : V → List ℕ → V → Type 0) (takes : V → SignalValue → V → Type 0)
+    (old : V) (plain : Plain) (new : V) : Type 0 where
   pub named : V
   pub name : names old plain.name named
   pub signals : Run takes named plain.signals new
 
 -- it was given what bytes mean where a message matches, and is unchanged where none does
-abbrev pub IsGivenMatch : {V : Type 0} → (V → List ℕ → V → Type 0) → (V → SignalValue → V → Type 0) → V → Option Plain → Bool → V → Type 0
+abbrev pub IsGivenMatch : {V : Type 0} → (V → List ℕ → V → Type 0) → (V → SignalValue → V → Type 0) →
+    V → Option Plain → Bool → V → Type 0
 IsGivenMatch names takes old (Some plain) matched new = (matched ≡ true) × IsGiven names takes old plain new
 IsGivenMatch names takes old None matched new = (matched ≡ false) × (new ≡ old)

@@ -2,7 +2,7 @@
 
 ghost use Rattle.std.specs.Prelude.{◌≡◌, ℕ, List, length};
 ghost use Rattle.bench_model.specs.Meaning.{group_of};
-ghost use Rattle.j1939_tp.specs.Frames.{frame, byte, is_possible as possible, sender, receiver, named_group};
+ghost use Rattle.j1939_tp.specs.Frames.{frame, byte, is_possible as possible, sender, receiver, named_group as named};
 ghost use Rattle.j1939_tp.specs.Frames.{role, role_of_control, role_of_opening};
 ghost use Rattle.j1939_tp.specs.FrameReading.{IsReading};
 
@@ -58,9 +58,9 @@ pub(crate) fn destination_of(id: u32) -> u8
 }
 
 /// The parameter group that a TP.CM names in its bytes 6 to 8, of which the low 18 bits count.
-fn group_named(bytes: &[u8]) -> u32
+fn named_group(bytes: &[u8]) -> u32
     requires { length bytes.now ≡ 8 }
-    ensures { (micros id : ℕ) → result ≡ named_group (frame micros id bytes.now) }
+    ensures { (micros id : ℕ) → result ≡ named (frame micros id bytes.now) }
 {
     (u32::from(bytes[5]) + u32::from(bytes[6]) * 256 + u32::from(bytes[7]) * 65_536) % 262_144
 }
@@ -84,7 +84,7 @@ fn read_opening(reaches: bool, bytes: &[u8]) -> Option<TpFrame<'_>>
         return None;
     }
     Some(TpFrame::Opens(Opening {
-        pgn: group_named(bytes),
+        pgn: named_group(bytes),
         size,
         packets,
     }))
@@ -95,7 +95,7 @@ fn read_control(id: u32, bytes: &[u8]) -> Option<TpFrame<'_>>
     ensures { (micros : ℕ) → let f = frame micros id bytes.now in
         IsReading (role_of_control (byte 1 f) f) f result }
 {
-    let pgn = group_named(bytes);
+    let pgn = named_group(bytes);
     match bytes[0] {
         REQUEST_TO_SEND => read_opening(destination_of(id) != EVERYONE, bytes),
         BROADCAST => read_opening(destination_of(id) == EVERYONE, bytes),

@@ -64,7 +64,7 @@ fn database_of(alloc: Global, bytes: &[u8], statements: &[Statement]) -> Result<
 }
 
 /// The database, where it keeps every rule.
-fn checked(alloc: Global, database: Database) -> Result<Valid, LdfFault>
+fn check_database(alloc: Global, database: Database) -> Result<Valid, LdfFault>
     requires { IsMadeDatabase database }
     ensures ok { IfOk result (λ valid. (valid.database ≡ database) × IsValid database) }
     ensures fault { IfErr result (IsCheckOrMemory database) }
@@ -84,7 +84,7 @@ fn read(alloc: Global, bytes: &[u8]) -> Result<Valid, LdfFault>
     let list = tokens_of(alloc, bytes)?;
     let statements = statements_of(alloc, bytes, &list)?;
     let database = database_of(alloc, bytes, &statements)?;
-    checked(alloc, database)
+    check_database(alloc, database)
 }
 
 /// The database that the text describes, or the text's one fault: the least of `LdfFault`'s numbers that applies.

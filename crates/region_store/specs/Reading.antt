@@ -40,6 +40,9 @@ reads_chain a b c f g = record {
       let load : Read → Did = λ r. did.Loaded (a.start + r.at) r.word in
       let mine : List Did = loads_at a.start f.more in
       let its : List Did = loads_at a.start g.more in
-      let same : loads_at a.start (g.more ++ f.more) ≡ mine ++ its = ap (map load) (reverse-append g.more f.more) ∙ map-append load (reverse f.more) (reverse g.more) in
-      g.steps ∙ ((λ i. f.steps i ++ loads_at (f.start i) g.more) ∙ (append_assoc (steps_of_pin a) mine its ∙ ap (λ l. steps_of_pin a ++ l) (sym same)));
+      let same : loads_at a.start (g.more ++ f.more) ≡ mine ++ its =
+      ap (map load) (reverse-append g.more f.more) ∙ map-append load (reverse f.more) (reverse g.more) in
+      g.steps
+      ∙ ((λ i. f.steps i ++ loads_at (f.start i) g.more)
+      ∙ (append_assoc (steps_of_pin a) mine its ∙ ap (λ l. steps_of_pin a ++ l) (sym same)));
 }

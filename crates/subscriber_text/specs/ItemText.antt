@@ -1,6 +1,7 @@
 -- The text of items: each is whole lines, of words parted by single blanks.
 use Rattle.std.specs.Prelude.{ℕ, ◌==◌, Bool, ◌&&◌, ◌||◌, ◌++◌, List, [], ◌∷◌, codes, filter, flat_map, nat_lt, length, slice_index_or, Option, Some, None, if◌then◌else◌}
 use Rattle.std.specs.Fmt.{decimal, signed_decimal}
+use Rattle.byte_forms.specs.Bytes.{line_feed, space, hash}
 use Rattle.byte_forms.specs.Hexadecimal.{hex_digits}
 use Rattle.exact_scale.specs.ShortestText.{decimal_text}
 use Rattle.bench_model.specs.declared.database.Key.{Key}
@@ -14,11 +15,12 @@ use Rattle.bench_model.specs.declared.reading.Reading.{Reading}
 use Rattle.bench_model.specs.declared.reading.Item.{Item}
 use Rattle.bench_model.specs.declared.reading.Item.TheVariants as item
 use Rattle.text_words.specs.SpacedWords.{text_of_words}
+use Rattle.subscriber_text.specs.Bytes.{quote, backslash, small_x, delete}
 use Rattle.subscriber_text.specs.Wants.{WantList, wants_bus, wants_record, wants_signal}
 
 -- a line of words
 abbrev pub line_of : List (List ℕ) → List ℕ
-line_of words = text_of_words words ++ 10 ∷ []
+line_of words = text_of_words words ++ line_feed ∷ []
 
 -- two hexadecimal digits a byte
 abbrev pub hex_bytes : List ℕ → List ℕ
@@ -29,14 +31,14 @@ abbrev pub key_text : Key → List ℕ
 key_text key = if key.extended then hex_digits 8 key.id else hex_digits 3 key.id
 
 -- a byte inside quotation marks: `"` and the backslash are behind a backslash, and a control character
--- (below 32, or 127) is written as a backslash, `x` and its two digits
+-- is written as a backslash, `x` and its two digits
 abbrev pub quoted_byte : ℕ → List ℕ
 quoted_byte b =
-    if b == 34 || b == 92 then 92 ∷ b ∷ []
-    else if nat_lt b 32 || b == 127 then 92 ∷ 120 ∷ hex_digits 2 b else b ∷ []
+    if b == quote || b == backslash then backslash ∷ b ∷ []
+    else if nat_lt b space || b == delete then backslash ∷ small_x ∷ hex_digits 2 b else b ∷ []
 
 abbrev pub quoted : List ℕ → List ℕ
-quoted text = 34 ∷ (flat_map quoted_byte text ++ 34 ∷ [])
+quoted text = quote ∷ (flat_map quoted_byte text ++ quote ∷ [])
 
 -- the label's word, where there is a label
 abbrev pub label_words : Option (List ℕ) → List (List ℕ)
@@ -92,7 +94,7 @@ begin_stamped letter bus r words = begin letter bus r (decimal r.micros ∷ word
 abbrev pub record_words : List ℕ → Reading → Body → List (List ℕ)
 record_words bus r (body.Message name signals) = begin_stamped (codes "m") bus r (name ∷ [])
 record_words bus r (body.Unmatched key bytes) =
-    begin_stamped (codes "u") bus r ((key_text key ++ 35 ∷ hex_bytes bytes) ∷ [])
+    begin_stamped (codes "u") bus r ((key_text key ++ hash ∷ hex_bytes bytes) ∷ [])
 record_words bus r (body.Remote key) = begin_stamped (codes "r") bus r (key_text key ∷ [])
 record_words bus r (body.Error id) = begin_stamped (codes "e") bus r (hex_digits 8 id ∷ [])
 record_words bus r body.Bad = begin (codes "x") bus r []
@@ -147,4 +149,4 @@ items_text w items = flat_map (item_text w) items
 
 -- what a session's text begins with: in format 2 a line that names it
 abbrev pub header_text : WantList → List ℕ
-header_text w = if w.format == 2 then codes "sigserve 2" ++ 10 ∷ [] else []
+header_text w = if w.format == 2 then codes "sigserve 2" ++ line_feed ∷ [] else []

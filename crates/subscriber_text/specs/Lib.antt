@@ -1,4 +1,5 @@
 -- what a subscriber wants, how it asks for it, and the text that it is sent
+pub mod Bytes
 pub mod Wants
 pub mod WantLines
 pub mod FirstFault

@@ -3,6 +3,7 @@ use bench_model::{Body, Exact, Item, Key, Missed, Reading, SignalValue, Text};
 use multiplex_tree::List;
 use port_io::MemSink;
 use std::alloc::{AllocError, Global};
+use std::process::Abort;
 use std::test::*;
 
 mod before_go;
@@ -65,6 +66,29 @@ fn text_of(alloc: Global, wants: &Wants, items: &[Item]) -> Result<Vec<u8>, Allo
         append(wants, item, &mut text)?;
     }
     Ok(text)
+}
+
+/// The wants of format 1.
+fn all_wants(alloc: Global) -> Result<Wants, AllocError> {
+    Wants::all(alloc, &buses(alloc)?)
+}
+
+/// The wants of these lines.
+fn wants_of(alloc: Global, lines: &[u8]) -> Result<Wants, Fail> {
+    Ok(Wants::read(alloc, &buses(alloc)?, lines)?)
+}
+
+/// These items have this text under these wants.
+fn assert_text(
+    rt: &impl Abort,
+    alloc: Global,
+    wants: &Wants,
+    items: &[Item],
+    expected: &[u8],
+) -> Result<(), Fail> {
+    let text = text_of(alloc, wants, items)?;
+    assert_eq!(rt; text.as_slice(), expected);
+    Ok(())
 }
 
 /// So many lines that want a bus.

@@ -2,12 +2,13 @@
 
 ghost use Rattle.std.specs.Prelude.{◌≡◌, ◌<◌, length, IfOk, All};
 ghost use Rattle.exact_scale.specs.Limits.{IsScale};
+ghost use Rattle.multiplex_tree.specs.Trees.{IsTreeOver};
 ghost use Rattle.bench_model.specs.Limits.{IsLabel, IsEntry, IsCoding, IsMade};
 ghost use Rattle.bench_model.specs.Check.{IsValid};
 
 use crate::*;
 use exact_scale::Decimal;
-use multiplex_tree::{Link, List, Mark, Range, resolve};
+use multiplex_tree::{Link, List, Mark, Range, Tree, resolve};
 use std::alloc::{AllocError, Global};
 use std::test::Fail;
 
@@ -66,37 +67,55 @@ fn scale_of(row: &ScaleRow) -> Result<Scale, Fail>
     Ok(Scale::new(factor, offset)?)
 }
 
+pub fn label_of(raw: i64, text: Text) -> Label
+    ensures { IsLabel result }
+{
+    Label {
+        raw: i128::from(raw),
+        text,
+    }
+}
+
 fn labels_of(alloc: Global, rows: &[(i64, &'static str)]) -> Result<Vec<Label>, AllocError>
     ensures { IfOk result (λ labels. All IsLabel labels.items) }
 {
     let mut labels = Vec::new(alloc);
     for (raw, text) in rows {
-        labels.push(Label {
-            raw: i128::from(*raw),
-            text: Text::of(alloc, text.as_bytes())?,
-        })?;
+        let text = Text::of(alloc, text.as_bytes())?;
+        labels.push(label_of(*raw, text))?;
     }
     Ok(labels)
+}
+
+fn logical_of(alloc: Global, raw: u64, text: Option<&'static str>) -> Result<Entry, AllocError>
+    ensures { IfOk result IsEntry }
+{
+    let text = match text {
+        Some(text) => Some(Text::of(alloc, text.as_bytes())?),
+        None => None,
+    };
+    Ok(Entry::Logical { raw, text })
+}
+
+fn physical_of(alloc: Global, low: u64, high: u64, row: &ScaleRow) -> Result<Entry, Fail>
+    ensures { IfOk result IsEntry }
+{
+    let scale = scale_of(row)?;
+    let unit = Text::of(alloc, row.unit.as_bytes())?;
+    Ok(Entry::Physical {
+        low,
+        high,
+        scale,
+        unit,
+    })
 }
 
 fn entry_of(alloc: Global, row: &EntryRow) -> Result<Entry, Fail>
     ensures { IfOk result IsEntry }
 {
     match row {
-        EntryRow::Logical(raw, Some(text)) => Ok(Entry::Logical {
-            raw: *raw,
-            text: Some(Text::of(alloc, text.as_bytes())?),
-        }),
-        EntryRow::Logical(raw, None) => Ok(Entry::Logical {
-            raw: *raw,
-            text: None,
-        }),
-        EntryRow::Physical(low, high, scale) => Ok(Entry::Physical {
-            low: *low,
-            high: *high,
-            scale: scale_of(scale)?,
-            unit: Text::of(alloc, scale.unit.as_bytes())?,
-        }),
+        EntryRow::Logical(raw, text) => Ok(logical_of(alloc, *raw, *text)?),
+        EntryRow::Physical(low, high, scale) => physical_of(alloc, *low, *high, scale),
         EntryRow::Plain => Ok(Entry::Plain),
     }
 }
@@ -111,19 +130,45 @@ fn entries_of(alloc: Global, rows: &[EntryRow]) -> Result<Vec<Entry>, Fail>
     Ok(entries)
 }
 
+fn scaled_of(alloc: Global, row: &ScaleRow, labels: &[(i64, &'static str)]) -> Result<Coding, Fail>
+    ensures { IfOk result IsCoding }
+{
+    let scale = scale_of(row)?;
+    let unit = Text::of(alloc, row.unit.as_bytes())?;
+    let labels = List::of(labels_of(alloc, labels)?);
+    Ok(Coding::Scaled {
+        scale,
+        unit,
+        labels,
+    })
+}
+
 fn coding_of(alloc: Global, row: &CodingRow) -> Result<Coding, Fail>
     ensures { IfOk result IsCoding }
 {
     match row {
-        CodingRow::Scaled(scale, labels) => Ok(Coding::Scaled {
-            scale: scale_of(scale)?,
-            unit: Text::of(alloc, scale.unit.as_bytes())?,
-            labels: List::of(labels_of(alloc, labels)?),
-        }),
-        CodingRow::Listed(entries) => Ok(Coding::Listed {
-            entries: List::of(entries_of(alloc, entries)?),
-        }),
+        CodingRow::Scaled(scale, labels) => scaled_of(alloc, scale, labels),
+        CodingRow::Listed(rows) => {
+            let entries = List::of(entries_of(alloc, rows)?);
+            Ok(Coding::Listed { entries })
+        }
     }
+}
+
+fn signal_of(alloc: Global, row: &SignalRow) -> Result<Signal, Fail>
+    ensures { IfOk result (λ signal. IsCoding signal.coding) }
+{
+    let name = Text::of(alloc, row.name.as_bytes())?;
+    let coding = coding_of(alloc, &row.coding)?;
+    Ok(Signal {
+        name,
+        start: row.start,
+        size: row.size,
+        order: row.order,
+        signed: row.signed,
+        float: false,
+        coding,
+    })
 }
 
 fn signals_of(alloc: Global, rows: &[SignalRow]) -> Result<Vec<Signal>, Fail>
@@ -132,15 +177,7 @@ fn signals_of(alloc: Global, rows: &[SignalRow]) -> Result<Vec<Signal>, Fail>
 {
     let mut signals = Vec::new(alloc);
     for row in rows {
-        signals.push(Signal {
-            name: Text::of(alloc, row.name.as_bytes())?,
-            start: row.start,
-            size: row.size,
-            order: row.order,
-            signed: row.signed,
-            float: false,
-            coding: coding_of(alloc, &row.coding)?,
-        })?;
+        signals.push(signal_of(alloc, row)?)?;
     }
     Ok(signals)
 }
@@ -172,15 +209,24 @@ fn links_of(alloc: Global, count: usize, rows: &[LinkRow]) -> Result<Vec<Link>, 
     Ok(links)
 }
 
+/// The tree of signals with these indicators.
+fn tree_of(alloc: Global, rows: &[SignalRow], links: &[LinkRow]) -> Result<Tree, Fail>
+    ensures { IfOk result (λ tree. IsTreeOver (length rows.now) tree.parents) }
+{
+    let marks = marks_of(alloc, rows)?;
+    let links = links_of(alloc, marks.len(), links)?;
+    let tree = resolve(alloc, &marks, &links)?;
+    Ok(tree)
+}
+
 fn message_of(alloc: Global, row: &MessageRow) -> Result<Message, Fail>
     ensures { IfOk result IsMade }
 {
+    let name = Text::of(alloc, row.name.as_bytes())?;
+    let tree = tree_of(alloc, row.signals, row.links)?;
     let signals = signals_of(alloc, row.signals)?;
-    let marks = marks_of(alloc, row.signals)?;
-    let links = links_of(alloc, marks.len(), row.links)?;
-    let tree = resolve(alloc, &marks, &links)?;
     Ok(Message {
-        name: Text::of(alloc, row.name.as_bytes())?,
+        name,
         key: row.key,
         length: 8,
         signals: List::of(signals),

@@ -4,6 +4,7 @@ use super::building::{MessageRow, bench_of};
 use super::decoding_cases::CASES;
 use super::decoding_edges::EDGES;
 use crate::*;
+use exact_scale::Exact;
 use std::alloc::{AllocError, Global};
 use std::process::Abort;
 use std::test::Fail;
@@ -17,16 +18,35 @@ pub struct Case {
     pub meaning: &'static str,
 }
 
-/// A signal's value in words: its name, raw value, value, unit, and ` = ` and its label.
-fn write_value(alloc: Global, value: &SignalValue, out: &mut Vec<u8>) -> Result<(), AllocError> {
-    out.extend_from_slice(b"; ")?;
-    out.extend_from_slice(value.name.bytes())?;
-    out.push(b' ')?;
-    out.extend_from_slice(value.raw.to_string(alloc)?.as_bytes())?;
-    out.push(b' ')?;
-    value.value.append(out)?;
-    out.push(b' ')?;
-    out.extend_from_slice(value.unit.bytes())?;
+/// A value in digits.
+fn digits_of(alloc: Global, value: &Exact) -> Result<Vec<u8>, AllocError> {
+    let mut out = Vec::new(alloc);
+    value.append(&mut out)?;
+    Ok(out)
+}
+
+/// A signal's value in words: its name, raw value, value and unit.
+fn words_of_value(alloc: Global, value: &SignalValue) -> Result<Vec<u8>, AllocError> {
+    let raw = value.raw.to_string(alloc)?;
+    let number = digits_of(alloc, &value.value)?;
+    let (name, unit) = (value.name.bytes(), value.unit.bytes());
+    let digits = raw.as_bytes();
+    [
+        b"; ",
+        name,
+        b" ",
+        digits,
+        b" ",
+        number.as_slice(),
+        b" ",
+        unit,
+    ]
+    .concat(alloc)
+}
+
+/// Appends a signal's value in words, and ` = ` and its label.
+fn push_value(alloc: Global, value: &SignalValue, out: &mut Vec<u8>) -> Result<(), AllocError> {
+    out.extend_from_slice(&words_of_value(alloc, value)?)?;
     if let Some(label) = &value.label {
         out.extend_from_slice(b" = ")?;
         out.extend_from_slice(label.bytes())?;
@@ -34,27 +54,34 @@ fn write_value(alloc: Global, value: &SignalValue, out: &mut Vec<u8>) -> Result<
     Ok(())
 }
 
-/// A meaning in words: the message's name and its signals, or `no match`.
-fn words_of(alloc: Global, meaning: &Option<Plain>) -> Result<Vec<u8>, AllocError> {
-    let mut out = Vec::new(alloc);
-    match meaning {
-        Some(plain) => {
-            out.extend_from_slice(plain.name.bytes())?;
-            for value in plain.signals.items() {
-                write_value(alloc, value, &mut out)?;
-            }
-        }
-        None => out.extend_from_slice(b"no match")?,
+/// A decoded message in words: its name and its signals.
+fn words_of_plain(alloc: Global, plain: &Plain) -> Result<Vec<u8>, AllocError> {
+    let mut out = Vec::from_slice(alloc, plain.name.bytes())?;
+    for value in plain.signals.items() {
+        push_value(alloc, value, &mut out)?;
     }
     Ok(out)
+}
+
+/// A meaning in words: a decoded message, or `no match`.
+fn words_of(alloc: Global, meaning: &Option<Plain>) -> Result<Vec<u8>, AllocError> {
+    match meaning {
+        Some(plain) => words_of_plain(alloc, plain),
+        None => Vec::from_slice(alloc, b"no match"),
+    }
+}
+
+/// The meaning of a case, in words.
+fn meaning_of(alloc: Global, case: &Case) -> Result<Vec<u8>, Fail> {
+    let bench = bench_of(alloc, case.kind, case.messages)?;
+    let meaning = bench.plain(alloc, 0, case.ask, case.bytes)?;
+    Ok(words_of(alloc, &meaning)?)
 }
 
 /// Each case has its meaning.
 fn have_meanings(rt: &impl Abort, alloc: Global, cases: &[Case]) -> Result<(), Fail> {
     for case in cases {
-        let bench = bench_of(alloc, case.kind, case.messages)?;
-        let meaning = bench.plain(alloc, 0, case.ask, case.bytes)?;
-        let words = words_of(alloc, &meaning)?;
+        let words = meaning_of(alloc, case)?;
         assert_eq!(rt; words.as_slice(), case.meaning.as_bytes());
     }
     Ok(())

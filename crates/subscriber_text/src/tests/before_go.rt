@@ -1,7 +1,6 @@
 //! What is before the line `GO`.
 
 use super::*;
-use std::process::Abort;
 
 /// The first bytes of an input, whether it has ended, and what they say.
 const INPUTS: [(&[u8], bool, Asking); 17] = [
@@ -48,52 +47,34 @@ fn behind_feeds(alloc: Global, feeds: usize, end: &[u8]) -> Result<Vec<u8>, Allo
     Ok(text)
 }
 
-/// So many line feeds and this behind them say so.
-fn says(
+/// Line feeds, what is behind them, whether the input has ended, and what that says.
+const AT_THE_LIMIT: &[(usize, &[u8], bool, Asking)] = &[
+    (65_533, b"GO\n", false, Asking::Go { wants: 65_533 }),
+    (65_534, b"GO", true, Asking::Long { n: 65_535 }),
+    (65_533, b"GO", true, Asking::Go { wants: 65_533 }),
+    (65_533, b"GO", false, Asking::Open),
+    (65_536, b"", false, Asking::Long { n: 65_536 }),
+    (65_535, b"", true, Asking::Gone),
+    (65_532, b"WANT", false, Asking::Long { n: 65_533 }),
+];
+
+/// Each text says so.
+fn assert_at_the_limit(
     rt: &impl Abort,
     alloc: Global,
-    feeds: usize,
-    end: &[u8],
-    ended: bool,
-    expected: Asking,
+    rows: &[(usize, &[u8], bool, Asking)],
 ) -> Result<(), Fail> {
-    let text = behind_feeds(alloc, feeds, end)?;
-    assert!(rt; text.len() <= 65_536);
-    assert_eq!(rt; wants_before_go(&text, ended), expected);
+    for (feeds, end, ended, expected) in rows {
+        let text = behind_feeds(alloc, *feeds, end)?;
+        assert!(rt; text.len() <= 65_536);
+        assert_eq!(rt; wants_before_go(&text, *ended), *expected);
+    }
     Ok(())
 }
 
 #[test]
 fn its_end_parses_among_the_first_65536_bytes(rt: HostRuntime) -> Result<(), Fail> {
-    let alloc = rt.alloc();
-    says(
-        &rt,
-        alloc,
-        65_533,
-        b"GO\n",
-        false,
-        Asking::Go { wants: 65_533 },
-    )?;
-    says(&rt, alloc, 65_534, b"GO", true, Asking::Long { n: 65_535 })?;
-    says(
-        &rt,
-        alloc,
-        65_533,
-        b"GO",
-        true,
-        Asking::Go { wants: 65_533 },
-    )?;
-    says(&rt, alloc, 65_533, b"GO", false, Asking::Open)?;
-    says(&rt, alloc, 65_536, b"", false, Asking::Long { n: 65_536 })?;
-    says(&rt, alloc, 65_535, b"", true, Asking::Gone)?;
-    says(
-        &rt,
-        alloc,
-        65_532,
-        b"WANT",
-        false,
-        Asking::Long { n: 65_533 },
-    )
+    assert_at_the_limit(&rt, rt.alloc(), AT_THE_LIMIT)
 }
 
 /// The first bytes of so many lines that want a bus.

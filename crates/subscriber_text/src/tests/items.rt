@@ -125,49 +125,57 @@ c A 2 0 1050000 65226 0 255 abort\n\
 c A 2 0 1050000 65226 0 255 end\n\
 g A 2 3 1000020 1000040 0 7\n";
 
+/// Each kind of item has its line under these wants.
+fn assert_kinds(
+    rt: &impl Abort,
+    alloc: Global,
+    wants: &Wants,
+    transported: &[u8],
+) -> Result<(), Fail> {
+    assert_text(rt, alloc, wants, &frames(alloc)?, FRAMES)?;
+    assert_text(rt, alloc, wants, &transports(alloc)?, transported)
+}
+
 #[test]
 fn each_kind_of_item_has_its_line(rt: HostRuntime) -> Result<(), Fail> {
-    let alloc = rt.alloc();
-    let wants = Wants::all(alloc, &buses(alloc)?)?;
+    let wants = all_wants(rt.alloc())?;
     assert_eq!(rt; wants.format(), 1);
-    let text = text_of(alloc, &wants, &frames(alloc)?)?;
-    assert_eq!(rt; text.as_slice(), FRAMES);
-    let text = text_of(alloc, &wants, &transports(alloc)?)?;
-    assert_eq!(rt; text.as_slice(), TRANSPORTS);
-    Ok(())
+    assert_kinds(&rt, rt.alloc(), &wants, TRANSPORTS)
 }
 
 #[test]
 fn format_2_tells_more_of_a_gap(rt: HostRuntime) -> Result<(), Fail> {
-    let alloc = rt.alloc();
-    let wants = Wants::read(alloc, &buses(alloc)?, b"")?;
+    let wants = wants_of(rt.alloc(), b"")?;
     assert_eq!(rt; wants.format(), 2);
-    let text = text_of(alloc, &wants, &frames(alloc)?)?;
-    assert_eq!(rt; text.as_slice(), FRAMES);
-    let text = text_of(alloc, &wants, &transports(alloc)?)?;
-    assert_eq!(rt; text.as_slice(), SECOND_TRANSPORTS);
-    Ok(())
+    assert_kinds(&rt, rt.alloc(), &wants, SECOND_TRANSPORTS)
 }
 
-#[test]
-fn a_signal_without_label_or_unit_has_none(rt: HostRuntime) -> Result<(), Fail> {
-    let alloc = rt.alloc();
-    let mut signals = Vec::new(alloc);
-    signals.push(SignalValue {
+/// The value of a signal with no label.
+fn unlabelled(alloc: Global) -> Result<SignalValue, AllocError> {
+    Ok(SignalValue {
         name: Text::of(alloc, b"Speed")?,
         raw: 4000,
         value: Exact { num: 8000, k: 0 },
         unit: Text::of(alloc, b"rpm")?,
         label: None,
-    })?;
+    })
+}
+
+/// The record of a signal with no label, and of one with no unit.
+fn bare_signals(alloc: Global) -> Result<Vec<Item>, AllocError> {
+    let mut signals = Vec::new(alloc);
+    signals.push(unlabelled(alloc)?)?;
     signals.push(signal(alloc, b"Gear", 1, Exact { num: 1, k: 0 }, b"", b"First")?)?;
-    let items = one(alloc, message(alloc, b"Engine", signals)?)?;
-    let wants = Wants::all(alloc, &buses(alloc)?)?;
-    let text = text_of(alloc, &wants, &items)?;
+    one(alloc, message(alloc, b"Engine", signals)?)
+}
+
+#[test]
+fn a_signal_without_label_or_unit_has_none(rt: HostRuntime) -> Result<(), Fail> {
+    let wants = all_wants(rt.alloc())?;
+    let items = bare_signals(rt.alloc())?;
     let expected =
         b"m A 0 0 1000000 Engine\ns Speed 4000 8000 \"rpm\"\ns Gear 1 1 \"\" \"First\"\n";
-    assert_eq!(rt; text.as_slice(), expected.as_slice());
-    Ok(())
+    assert_text(&rt, rt.alloc(), &wants, &items, expected)
 }
 
 /// Values of this type may go to another thread, and may be dropped there.
@@ -175,49 +183,57 @@ fn assert_goes<T: Send + Drop>(_value: &T) {}
 
 #[test]
 fn wants_and_faults_go_to_another_thread(rt: HostRuntime) -> Result<(), Fail> {
-    let alloc = rt.alloc();
-    assert_goes(&Wants::all(alloc, &buses(alloc)?)?);
+    assert_goes(&all_wants(rt.alloc())?);
     assert_goes(&WantsFault::Line { n: 1 });
     assert_goes(&PrintRefused::Memory);
     Ok(())
 }
 
-#[test]
-fn quoted_texts_are_escaped(rt: HostRuntime) -> Result<(), Fail> {
-    let alloc = rt.alloc();
+/// The record of a signal with bytes that are escaped.
+fn escaped(alloc: Global) -> Result<Vec<Item>, AllocError> {
     let mut signals = Vec::new(alloc);
     let value = Exact { num: -205, k: 1 };
     signals.push(signal(alloc, b"S", -1, value, b"\"\\", b"a\x00\x1f \x7f\x80\xff\n")?)?;
-    let items = one(alloc, message(alloc, b"M", signals)?)?;
-    let wants = Wants::all(alloc, &buses(alloc)?)?;
-    let text = text_of(alloc, &wants, &items)?;
+    one(alloc, message(alloc, b"M", signals)?)
+}
+
+#[test]
+fn quoted_texts_are_escaped(rt: HostRuntime) -> Result<(), Fail> {
+    let wants = all_wants(rt.alloc())?;
+    let items = escaped(rt.alloc())?;
     let expected =
         b"m A 0 0 1000000 M\ns S -1 -20.5 \"\\\"\\\\\" \"a\\x00\\x1F \\x7F\x80\xff\\x0A\"\n";
-    assert_eq!(rt; text.as_slice(), expected.as_slice());
-    Ok(())
+    assert_text(&rt, rt.alloc(), &wants, &items, expected)
+}
+
+/// A sink that takes 5 bytes a write, of which these fail.
+fn sink_of(alloc: Global, failing: &[u64]) -> Result<MemSink, AllocError> {
+    let failing = Vec::from_slice(alloc, failing)?;
+    Ok(MemSink::new(vec![in alloc; 0; 64]?, 5, failing))
+}
+
+/// The same end printed twice, of which the first fails.
+fn assert_prints(rt: &impl Abort, alloc: Global, wants: &Wants, sink: &mut MemSink) {
+    let end = Item::End { bus: 0, number: 4 };
+    let failed = print(alloc, wants, &end, sink);
+    assert_eq!(rt; failed, Err(PrintRefused::WriteFault));
+    assert_eq!(rt; print(alloc, wants, &end, sink), Ok(()));
 }
 
 #[test]
 fn printing_tells_a_fault_of_the_sink(rt: HostRuntime) -> Result<(), Fail> {
-    let alloc = rt.alloc();
-    let wants = Wants::read(alloc, &buses(alloc)?, b"")?;
-    let end = Item::End { bus: 0, number: 4 };
-    let mut sink = MemSink::new(vec![in alloc; 0; 64]?, 5, vec![in alloc; 4]?);
+    let wants = wants_of(rt.alloc(), b"")?;
+    let mut sink = sink_of(rt.alloc(), &[4])?;
     assert_eq!(rt; header(&wants, &mut sink), Ok(()));
-    assert_eq!(rt;
-        print(alloc, &wants, &end, &mut sink),
-        Err(PrintRefused::WriteFault)
-    );
-    assert_eq!(rt; print(alloc, &wants, &end, &mut sink), Ok(()));
+    assert_prints(&rt, rt.alloc(), &wants, &mut sink);
     assert_eq!(rt; sink.bytes(), b"sigserve 2\nend Aend A 4\n".as_slice());
     Ok(())
 }
 
 #[test]
 fn format_1_has_no_header(rt: HostRuntime) -> Result<(), Fail> {
-    let alloc = rt.alloc();
-    let wants = Wants::all(alloc, &buses(alloc)?)?;
-    let mut sink = MemSink::new(vec![in alloc; 0; 64]?, 5, Vec::new(alloc));
+    let wants = all_wants(rt.alloc())?;
+    let mut sink = sink_of(rt.alloc(), &[])?;
     assert_eq!(rt; header(&wants, &mut sink), Ok(()));
     assert!(rt; sink.bytes().is_empty());
     Ok(())

@@ -1,7 +1,6 @@
 //! The text of a message's record, part by part.
 
 use super::*;
-use std::process::Abort;
 
 const PLACE: RecordPlace = RecordPlace {
     bus: 0,
@@ -10,32 +9,44 @@ const PLACE: RecordPlace = RecordPlace {
     micros: 1_000_000,
 };
 
+const SPEED: SignalParts = SignalParts {
+    name: b"Speed",
+    raw: 1200,
+    value: Exact { num: 1505, k: 1 },
+    unit: b"rpm",
+    label: None,
+};
+
+const MODE: SignalParts = SignalParts {
+    name: b"Mode",
+    raw: -1,
+    value: Exact { num: -1, k: 0 },
+    unit: b"",
+    label: Some(b"off"),
+};
+
+/// What a signal of a message appends.
+fn append_one(
+    wants: &Wants,
+    wanted: WantedSignals,
+    signal: SignalParts,
+    text: &mut Vec<u8>,
+) -> Result<(), AllocError> {
+    append_wanted_signal(wants, PLACE.bus, b"Engine", wanted, signal, text)
+}
+
 /// What the record of a message of two signals appends.
 fn text_of_parts(alloc: Global, wants: &Wants) -> Result<Vec<u8>, AllocError> {
-    let speed = SignalParts {
-        name: b"Speed",
-        raw: 1200,
-        value: Exact { num: 1505, k: 1 },
-        unit: b"rpm",
-        label: None,
-    };
-    let mode = SignalParts {
-        name: b"Mode",
-        raw: -1,
-        value: Exact { num: -1, k: 0 },
-        unit: b"",
-        label: Some(b"off"),
-    };
     let mut text = Vec::new(alloc);
     let wanted = append_message(wants, PLACE, b"Engine", &mut text)?;
-    append_wanted_signal(wants, PLACE.bus, b"Engine", wanted, speed, &mut text)?;
-    append_wanted_signal(wants, PLACE.bus, b"Engine", wanted, mode, &mut text)?;
+    append_one(wants, wanted, SPEED, &mut text)?;
+    append_one(wants, wanted, MODE, &mut text)?;
     Ok(text)
 }
 
 /// The record has this text under the wants of these lines.
 fn assert_parts(rt: &impl Abort, alloc: Global, lines: &[u8], expected: &[u8]) -> Result<(), Fail> {
-    let wants = Wants::read(alloc, &buses(alloc)?, lines)?;
+    let wants = wants_of(alloc, lines)?;
     let text = text_of_parts(alloc, &wants)?;
     assert_eq!(rt; text.as_slice(), expected);
     Ok(())

@@ -1,12 +1,10 @@
 //! Wants, and what they cover.
 
 use super::*;
-use std::process::Abort;
 
 /// What reading a text of wants answers: its format, or its fault.
 fn answer(alloc: Global, text: &[u8]) -> Result<Result<u32, WantsFault>, AllocError> {
-    let buses = buses(alloc)?;
-    match Wants::read(alloc, &buses, text) {
+    match Wants::read(alloc, &buses(alloc)?, text) {
         Ok(wants) => Ok(Ok(wants.format())),
         Err(fault) => Ok(Err(fault)),
     }
@@ -55,15 +53,24 @@ fn the_first_faulty_line_decides(rt: HostRuntime) -> Result<(), Fail> {
     reads(&rt, rt.alloc(), TEXTS.as_slice())
 }
 
+/// Lines that want a bus, and one line more.
+fn lines_before(alloc: Global, end: &[u8]) -> Result<Vec<u8>, AllocError> {
+    let mut text = lines(alloc, 9361)?;
+    text.extend_from_slice(end)?;
+    Ok(text)
+}
+
 #[test]
 fn a_text_of_65535_bytes_is_read(rt: HostRuntime) -> Result<(), Fail> {
-    let alloc = rt.alloc();
-    let mut text = lines(alloc, 9362)?;
-    text.push(b'\n')?;
+    let text = lines_before(rt.alloc(), b"WANT A\n\n")?;
     assert_eq!(rt; text.len(), 65_535);
-    assert_eq!(rt; answer(alloc, &text)?, Err(WantsFault::Line { n: 9363 }));
-    text[65_533] = b' ';
-    assert_eq!(rt; answer(alloc, &text)?, Ok(2));
+    assert_eq!(rt;
+        answer(rt.alloc(), &text)?,
+        Err(WantsFault::Line { n: 9363 })
+    );
+    let text = lines_before(rt.alloc(), b"WANT A \n")?;
+    assert_eq!(rt; text.len(), 65_535);
+    assert_eq!(rt; answer(rt.alloc(), &text)?, Ok(2));
     Ok(())
 }
 
@@ -105,11 +112,8 @@ fn covers(
     items: &[Item],
     rows: &[(&[u8], &[u8])],
 ) -> Result<(), Fail> {
-    let buses = buses(alloc)?;
     for (text, expected) in rows {
-        let wants = Wants::read(alloc, &buses, text)?;
-        let sent = text_of(alloc, &wants, items)?;
-        assert_eq!(rt; sent.as_slice(), *expected);
+        assert_text(rt, alloc, &wants_of(alloc, text)?, items, expected)?;
     }
     Ok(())
 }
@@ -120,13 +124,19 @@ fn wants_cover_a_bus_a_message_or_a_signal(rt: HostRuntime) -> Result<(), Fail> 
     covers(&rt, rt.alloc(), &items, COVERED.as_slice())
 }
 
-/// A message in packets, with two signals.
-fn lamps(alloc: Global) -> Result<Vec<Item>, AllocError> {
+/// The signals of a message in packets.
+fn lamp_signals(alloc: Global) -> Result<Vec<SignalValue>, AllocError> {
     let mut signals = Vec::new(alloc);
     let one_lamp = Exact { num: 1, k: 0 };
     let count = Exact { num: 3, k: 0 };
     signals.push(signal(alloc, b"Lamp", 1, one_lamp, b"", b"on")?)?;
     signals.push(signal(alloc, b"Count", 3, count, b"", b"few")?)?;
+    Ok(signals)
+}
+
+/// A message in packets, with two signals.
+fn lamps(alloc: Global) -> Result<Vec<Item>, AllocError> {
+    let signals = lamp_signals(alloc)?;
     let body = Body::Transport {
         pgn: 65226,
         sa: 0,
@@ -160,16 +170,12 @@ fn wants_cover_a_message_in_packets(rt: HostRuntime) -> Result<(), Fail> {
 
 #[test]
 fn format_1_has_all_signals_of_a_message_in_packets(rt: HostRuntime) -> Result<(), Fail> {
-    let alloc = rt.alloc();
-    let wants = Wants::all(alloc, &buses(alloc)?)?;
-    let text = text_of(alloc, &wants, &lamps(alloc)?)?;
-    assert_eq!(rt; text.as_slice(), LAMPS);
-    Ok(())
+    let wants = all_wants(rt.alloc())?;
+    assert_text(&rt, rt.alloc(), &wants, &lamps(rt.alloc())?, LAMPS)
 }
 
 #[test]
 fn a_record_of_a_bus_past_the_names_is_not_wanted(rt: HostRuntime) -> Result<(), Fail> {
-    let alloc = rt.alloc();
     let reading = Reading {
         bus: 2,
         number: 0,
@@ -177,11 +183,9 @@ fn a_record_of_a_bus_past_the_names_is_not_wanted(rt: HostRuntime) -> Result<(),
         micros: 0,
         body: Body::Bad,
     };
-    let items = one(alloc, Item::Reading { reading })?;
-    let wants = Wants::all(alloc, &buses(alloc)?)?;
-    let text = text_of(alloc, &wants, &items)?;
-    assert!(rt; text.is_empty());
-    Ok(())
+    let wants = all_wants(rt.alloc())?;
+    let items = one(rt.alloc(), Item::Reading { reading })?;
+    assert_text(&rt, rt.alloc(), &wants, &items, b"")
 }
 
 /// A start, a gap and an end of a bus.
@@ -208,26 +212,25 @@ fn marks(alloc: Global, bus: u32) -> Result<Vec<Item>, AllocError> {
 
 const MARKS: &[u8] = b"start A 2\ng A 2 3 20 40 0 7\nend A 5\n";
 
+/// Wants, and what they leave of the marks of the first bus.
+const MARKED: [(&[u8], &[u8]); 3] = [
+    (b"WANT A Engine Speed", MARKS),
+    (b"WANT A None", MARKS),
+    (b"WANT Bus2 Engine", b""),
+];
+
 #[test]
 fn starts_gaps_and_ends_are_wanted_with_anything_of_the_bus(rt: HostRuntime) -> Result<(), Fail> {
-    let alloc = rt.alloc();
-    let some = [
-        (b"WANT A Engine Speed".as_slice(), MARKS),
-        (b"WANT A None".as_slice(), MARKS),
-        (b"WANT Bus2 Engine".as_slice(), b"".as_slice()),
-    ];
-    covers(&rt, alloc, &marks(alloc, 0)?, some.as_slice())?;
-    let past = [(b"".as_slice(), b"".as_slice())];
-    covers(&rt, alloc, &marks(alloc, 2)?, past.as_slice())
+    covers(&rt, rt.alloc(), &marks(rt.alloc(), 0)?, MARKED.as_slice())?;
+    let wants = wants_of(rt.alloc(), b"")?;
+    assert_text(&rt, rt.alloc(), &wants, &marks(rt.alloc(), 2)?, b"")
 }
 
 #[test]
 fn what_no_message_matched_is_wanted_with_the_whole_bus(rt: HostRuntime) -> Result<(), Fail> {
-    let alloc = rt.alloc();
-    let items = one(alloc, record(3, 0, Body::Bad))?;
-    let wants = Wants::read(alloc, &buses(alloc)?, b"WANT A -\nWANT Bus2")?;
-    let text = text_of(alloc, &wants, &items)?;
-    assert!(rt; text.is_empty());
+    let wants = wants_of(rt.alloc(), b"WANT A -\nWANT Bus2")?;
+    let items = one(rt.alloc(), record(3, 0, Body::Bad))?;
+    assert_text(&rt, rt.alloc(), &wants, &items, b"")?;
     assert!(rt; wants.wants_bus(1));
     assert!(rt; !wants.wants_bus(2));
     Ok(())

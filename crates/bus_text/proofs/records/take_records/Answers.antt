@@ -4,8 +4,8 @@ use Rattle.bus_text.proofs.records.take_records.Goals as goal
 
 pub returns-then-matched-clause-text : goal.returns-then-matched-clause-text
 returns-then-matched-clause-text c meaning before own brought said =
-    records_matched c.args.printer.now.wants.now meaning (next_place c.args.decoder.now c.args.line.now) c.args.line.now c.args.matched c.args.printer.now.text.items c.transported.result _
-    c.if-matched.true own (c.transported.ensures.records meaning before brought said)
+    records_matched c.args.printer.now.wants.now meaning (next_place c.args.decoder.now c.args.line.now) c.args.line.now c.args.matched c.args.printer.now.text.items c.transport_record.result _
+    c.if-matched.true own (c.transport_record.ensures.records meaning before brought said)
 
 pub returns-clause-text : goal.returns-clause-text
 returns-clause-text c meaning before own brought said =

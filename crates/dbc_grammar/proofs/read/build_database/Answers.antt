@@ -10,8 +10,8 @@ use Rattle.dbc_grammar.proofs.MadeLaws.{messages_made}
 use Rattle.dbc_grammar.proofs.DatabaseLaws.{read_of, rows_in, messages_in_place, treeless_in_place, database_read, rule_broken, treeless_read, too_wide_read}
 use Rattle.dbc_grammar.proofs.read.build_database.Goals as goal
 
-pub checked-requires : goal.checked-requires
-checked-requires c =
+pub check_database-requires : goal.check_database-requires
+check_database-requires c =
     let text = c.args.bytes.now in
     let utf8 = c.is_utf8-utf8.result in
     let forms = c.args.kept.messages.items in
@@ -33,8 +33,8 @@ returns-clause-ok c = λ tokens kept are_tokens.
     let are = messages_in_place text utf8 noted forms c.deref-3.result.now c.in-Ok.rows.items c.in-Ok-messages_of.messages.items c.of.result
     c.deref-3.ensures.value c.of.ensures rows c.in-Ok-messages_of.ensures.ok in
     let d : Database = record { messages = c.of.result } in
-    database_read text c.args.kept utf8 d c.checked.result (read_of text tokens c.args.kept kept are_tokens) c.is_utf8-utf8.ensures are
-    c.checked.ensures.ok c.checked.ensures.valid
+    database_read text c.args.kept utf8 d c.check_database.result (read_of text tokens c.args.kept kept are_tokens) c.is_utf8-utf8.ensures are
+    c.check_database.ensures.ok c.check_database.ensures.valid
 
 pub returns-clause-fault : goal.returns-clause-fault
 returns-clause-fault c = λ tokens kept are_tokens.
@@ -47,8 +47,8 @@ returns-clause-fault c = λ tokens kept are_tokens.
     let are = messages_in_place text utf8 noted forms c.deref-3.result.now c.in-Ok.rows.items c.in-Ok-messages_of.messages.items c.of.result
     c.deref-3.ensures.value c.of.ensures rows c.in-Ok-messages_of.ensures.ok in
     let d : Database = record { messages = c.of.result } in
-    rule_broken text c.args.kept utf8 d c.checked.result (read_of text tokens c.args.kept kept are_tokens) c.is_utf8-utf8.ensures are
-    c.checked.ensures.fault
+    rule_broken text c.args.kept utf8 d c.check_database.result (read_of text tokens c.args.kept kept are_tokens) c.is_utf8-utf8.ensures are
+    c.check_database.ensures.fault
 
 pub returns-in-Err-messages_of-clause-fault : goal.returns-in-Err-messages_of-clause-fault
 returns-in-Err-messages_of-clause-fault c = λ tokens kept are_tokens.

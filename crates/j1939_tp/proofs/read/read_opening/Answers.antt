@@ -7,5 +7,5 @@ returns c = λ micros id.
     let f = frame micros id c.args.bytes.now in
     let possible : is_possible (stated_size f) (stated_packets f) ≡ true = rw (← c.from.ensures, ← c.from-2.ensures) (sym c.is_possible.ensures ∙ c.if-not-is_possible.false) in (
       rw (c.if-not-reaches.false, possible) refl,
-      record { group = c.group_named.ensures micros id; size = rw (c.from.ensures, c.from-2.ensures) refl; packets = refl },
+      record { group = c.named_group.ensures micros id; size = rw (c.from.ensures, c.from-2.ensures) refl; packets = refl },
     )
