@@ -7,6 +7,7 @@ pub mod RowLaws
 pub mod TreeLaws
 pub mod MadeLaws
 pub mod DatabaseLaws
+pub mod ErrorLaws
 pub mod UniqueLaws
 pub mod NeverLaws
 pub mod OneFaultLaws

@@ -86,10 +86,7 @@ fn message_of(
     ensures ok { IfOk result (IsMessageOf bytes.now form.now row) }
     ensures fault { IfErr result (IsTreeFault bytes.now form.now row.marks.items row.links.items) }
 {
-    let tree = match tree_of(alloc, bytes, form, &row) {
-        Ok(tree) => tree,
-        Err(fault) => return Err(fault),
-    };
+    let tree = tree_of(alloc, bytes, form, &row)?;
     let Ok(name) = Text::of(alloc, token_text(bytes, form.heading.name)) else {
         return Err(DbcFault::Memory);
     };
@@ -121,10 +118,7 @@ fn messages_of(
         let Some(row) = left.pop_front() else {
             return Err(DbcFault::Memory);
         };
-        match message_of(alloc, bytes, form, row) {
-            Ok(message) => messages.push(message)?,
-            Err(fault) => return Err(fault),
-        }
+        messages.push(message_of(alloc, bytes, form, row)?)?;
     }
     Ok(messages)
 }
@@ -162,14 +156,8 @@ fn build_database(alloc: Global, bytes: &[u8], kept: Kept) -> Result<Valid, DbcF
 {
     trees_of_marks();
     let utf8 = is_utf8(bytes);
-    let rows = match rows_of(alloc, bytes, utf8, &kept.messages, &kept.notes) {
-        Ok(rows) => rows,
-        Err(fault) => return Err(fault),
-    };
-    let messages = match messages_of(alloc, bytes, &kept.messages, rows) {
-        Ok(messages) => messages,
-        Err(fault) => return Err(fault),
-    };
+    let rows = rows_of(alloc, bytes, utf8, &kept.messages, &kept.notes)?;
+    let messages = messages_of(alloc, bytes, &kept.messages, rows)?;
     check_database(
         alloc,
         Database {
@@ -200,13 +188,7 @@ fn read_text(alloc: Global, bytes: &[u8]) -> Result<Valid, DbcFault>
     ensures ok { IfOk result (λ valid. IsDatabaseOf bytes.now valid.database) }
     ensures fault { IfErr result (IsFaultOrMemory bytes.now) }
 {
-    let tokens = match tokens_of(alloc, bytes) {
-        Ok(tokens) => tokens,
-        Err(fault) => return Err(fault),
-    };
-    let kept = match read_statements(alloc, bytes, &tokens) {
-        Ok(kept) => kept,
-        Err(fault) => return Err(fault),
-    };
+    let tokens = tokens_of(alloc, bytes)?;
+    let kept = read_statements(alloc, bytes, &tokens)?;
     build_database(alloc, bytes, kept)
 }

@@ -98,10 +98,7 @@ fn row_of<'a>(
     let mut links = Vec::new(alloc);
     for (place, form) in forms.iter().enumerate() {
         let notes = notes_on(alloc, bytes, index, &places, named, key, place, form)?;
-        match signal_of(alloc, bytes, utf8, form, &notes) {
-            Ok(signal) => signals.push(signal)?,
-            Err(fault) => return Err(fault),
-        }
+        signals.push(signal_of(alloc, bytes, utf8, form, &notes)?)?;
         push_links(alloc, bytes, &places, place, &notes, &mut links)?;
         marks.push(form.mark)?;
     }
@@ -128,10 +125,7 @@ pub fn rows_of<'a>(
     let mut rows = VecDeque::new(alloc);
     for (place, message) in messages.iter().enumerate() {
         let named = places.is_first(place, key_of(message.heading.id));
-        match row_of(alloc, bytes, utf8, &index, named, message) {
-            Ok(row) => rows.push_back(row)?,
-            Err(fault) => return Err(fault),
-        }
+        rows.push_back(row_of(alloc, bytes, utf8, &index, named, message)?)?;
     }
     Ok(rows)
 }
