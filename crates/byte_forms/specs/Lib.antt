@@ -1,3 +1,4 @@
+-- classes of bytes, the lines and pieces of a text, and numbers by their digits
 pub mod Bytes
 pub mod Classes
 pub mod Lines

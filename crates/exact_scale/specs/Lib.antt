@@ -1,8 +1,10 @@
+-- decimal texts and the fractions that they denote
 pub mod Bytes
-pub mod Buffer
 pub mod Digits
+pub mod Numeral
 pub mod Fraction
 pub mod Limits
-pub mod Parts
 pub mod ShortestText
-pub mod Numeral
+-- what the code finds of a text, and what an append leaves
+pub mod Parts
+pub mod Buffer

@@ -1,16 +1,19 @@
+-- what the outside shows, and what each call on it does
 pub mod Causes
 pub mod OtherSide
 pub mod Source
 pub mod Sink
 pub mod Library
 pub mod Transfers
-pub mod Overrun
+-- objects in memory that keep to it
 pub mod MemoryReader
+pub mod MemoryWriter
+pub mod MemoryLibrary
+-- how values of the code are seen
+pub mod Overrun
 pub mod Progress
 pub mod MemSource
-pub mod MemoryWriter
 pub mod MemSink
 pub mod MemFile
-pub mod MemoryLibrary
 pub mod MemLibrary
 pub mod MemLog
