@@ -10,6 +10,7 @@ mod copies;
 mod decoding;
 mod decoding_cases;
 mod decoding_edges;
+mod edges;
 mod rows;
 
 /// Such a value may go to a worker and come back from one.
