@@ -89,6 +89,23 @@ fn logs_of(
     Ok(vec![in alloc; one, two, three]?)
 }
 
+/// Wants that cover the buses of three cases.
+fn wants_of(alloc: Global, first: &Case, second: &Case, third: &Case) -> Result<Wants, Fail> {
+    let mut names = Vec::new(alloc);
+    for name in [first.bus, second.bus, third.bus] {
+        names.push(Text::of(alloc, name)?)?;
+    }
+    Ok(Wants::all(alloc, &names)?)
+}
+
+/// A sink that is written in such pieces.
+fn sink_of(alloc: Global, pieces: Pieces) -> Result<MemSink, Fail>
+    requires { 1 ≤ pieces.write }
+{
+    let failing = Vec::from_slice(alloc, pieces.failing_writes)?;
+    Ok(MemSink::new(vec![in alloc; 0; 4_096]?, pieces.write, failing))
+}
+
 /// What was written of the text of three buses, how that ended, and their logs.
 fn print(
     alloc: Global,
@@ -100,18 +117,11 @@ fn print(
     requires read { 1 ≤ pieces.read }
     requires write { 1 ≤ pieces.write }
 {
-    let mut image = image_of(alloc, first, second, third)?;
-    let one = Text::of(alloc, first.bus)?;
-    let two = Text::of(alloc, second.bus)?;
-    let names = vec![in alloc; one, two, Text::of(alloc, third.bus)?]?;
-    let wants = Wants::all(alloc, &names)?;
-    let mut logs = logs_of(alloc, first, second, third, pieces)?;
-    let mut sink = MemSink::new(
-        vec![in alloc; 0; 4_096]?,
-        pieces.write,
-        Vec::from_slice(alloc, pieces.failing_writes)?,
-    );
+    let wants = wants_of(alloc, first, second, third)?;
+    let mut sink = sink_of(alloc, pieces)?;
     let mut buffer = TextBuffer::new(alloc)?;
+    let mut image = image_of(alloc, first, second, third)?;
+    let mut logs = logs_of(alloc, first, second, third, pieces)?;
     let end = print_buses(alloc, &mut image, &wants, &mut logs, &mut buffer, &mut sink);
     Ok(Outcome { end, sink, logs })
 }
@@ -122,6 +132,12 @@ fn text_of(alloc: Global, first: &str, second: &str, third: &str) -> Result<Stri
     text.push_str(second)?;
     text.push_str(third)?;
     Ok(text)
+}
+
+/// The print of three buses ended so, and this was written.
+fn assert_outcome(rt: &impl Abort, outcome: &Outcome, end: Result<(), BusesRefused>, text: &str) {
+    assert_eq!(rt; outcome.end, end);
+    assert_eq!(rt; outcome.sink.bytes(), text.as_bytes());
 }
 
 /// A bus of each kind, read and written in these pieces.
@@ -136,8 +152,7 @@ fn assert_text(rt: &impl Abort, alloc: Global, read: usize, write: usize) -> Res
     };
     let outcome = print(alloc, &FRAMES, &LISTED, &GROUP, pieces)?;
     let text = text_of(alloc, FRAMES.text, LISTED.text, GROUP.text)?;
-    assert_eq!(rt; outcome.end, Ok(()));
-    assert_eq!(rt; outcome.sink.bytes(), text.as_bytes());
+    assert_outcome(rt, &outcome, Ok(()), text.as_str());
     Ok(())
 }
 
@@ -168,13 +183,22 @@ fn assert_stop(
     };
     let mut outcome = print(alloc, &LISTED, &FRAMES, &GROUP, pieces)?;
     let text = text_of(alloc, LISTED.text, text, "")?;
-    assert_eq!(rt; outcome.end, Err(BusesRefused::ReadFault { bus: 1 }));
-    assert_eq!(rt; outcome.sink.bytes(), text.as_bytes());
+    assert_outcome(
+        rt,
+        &outcome,
+        Err(BusesRefused::ReadFault { bus: 1 }),
+        text.as_str(),
+    );
     assert_eq!(rt; outcome.logs.len(), 3);
-    let mut prefix = [0u8; 46];
     let third = outcome.logs.get_mut(2).ok_or("three logs")?;
-    assert_eq!(rt; third.read(&mut prefix).ok(), Some(46));
-    assert_eq!(rt; prefix.as_slice(), &GROUP.log.as_bytes()[..46]);
+    assert_first(rt, third, &GROUP.log.as_bytes()[..46])
+}
+
+/// A log gives these bytes first, 46 of them.
+fn assert_first(rt: &impl Abort, log: &mut MemSource, bytes: &[u8]) -> Result<(), Fail> {
+    let mut prefix = [0u8; 46];
+    assert_eq!(rt; log.read(&mut prefix).ok(), Some(46));
+    assert_eq!(rt; prefix.as_slice(), bytes);
     Ok(())
 }
 

@@ -30,21 +30,49 @@ fn cause_name(cause: CutCause) -> &'static str {
     }
 }
 
+/// Appends a group, a source and a destination.
+fn push_session(alloc: Global, text: &mut String, numbers: [u32; 3]) -> Result<(), AllocError> {
+    for number in numbers {
+        text.push_str(format!(in alloc; "{number} ")?.as_str())?;
+    }
+    Ok(())
+}
+
+fn push_hexadecimal(alloc: Global, text: &mut String, bytes: &[u8]) -> Result<(), AllocError> {
+    for byte in bytes {
+        text.push_str(format!(in alloc; "{byte:02X}")?.as_str())?;
+    }
+    Ok(())
+}
+
 fn push_answer(alloc: Global, text: &mut String, out: &TpOut) -> Result<(), AllocError> {
     match out {
         TpOut::Nothing => text.push_str("-"),
         TpOut::Whole { pgn, sa, da, bytes } => {
-            text.push_str(format!(in alloc; "{pgn} {sa} {da} ")?.as_str())?;
-            for byte in bytes.bytes() {
-                text.push_str(format!(in alloc; "{byte:02X}")?.as_str())?;
-            }
-            Ok(())
+            push_session(alloc, text, [*pgn, u32::from(*sa), u32::from(*da)])?;
+            push_hexadecimal(alloc, text, bytes.bytes())
         }
         TpOut::Cut { pgn, sa, da, cause } => {
-            let name = cause_name(*cause);
-            text.push_str(format!(in alloc; "{pgn} {sa} {da} {name}")?.as_str())
+            push_session(alloc, text, [*pgn, u32::from(*sa), u32::from(*da)])?;
+            text.push_str(cause_name(*cause))
         }
     }
+}
+
+/// Appends what this frame brings.
+fn hear(
+    alloc: Global,
+    listener: &mut Listener,
+    text: &mut String,
+    frame: (u64, u32),
+    bytes: &[u8],
+) -> Result<(), AllocError> {
+    if !text.is_empty() {
+        text.push_str("; ")?;
+    }
+    let (micros, id) = frame;
+    let out = listener.step(micros, id, bytes)?;
+    push_answer(alloc, text, &out)
 }
 
 /// What these frames bring, one after another.
@@ -52,11 +80,8 @@ fn answers(alloc: Global, frames: &[Row]) -> Result<String, AllocError> {
     let mut listener = Listener::new(alloc);
     let mut text = String::new(alloc);
     for (micros, id, bytes) in frames {
-        if !text.is_empty() {
-            text.push_str("; ")?;
-        }
-        let out = listener.step(*micros, *id, &bytes.to_be_bytes())?;
-        push_answer(alloc, &mut text, &out)?;
+        let bytes = bytes.to_be_bytes();
+        hear(alloc, &mut listener, &mut text, (*micros, *id), &bytes)?;
     }
     Ok(text)
 }
@@ -75,76 +100,74 @@ fn check_cases(rt: &impl Abort, alloc: Global, cases: &[Case]) -> Result<(), Fai
 
 #[test]
 fn what_each_frame_brings(rt: HostRuntime) -> Result<(), Fail> {
-    check_cases(&rt, rt.alloc(), &CASES)
+    check_cases(&rt, rt.alloc(), CASES)
 }
 
 #[test]
 fn what_late_odd_and_parallel_frames_bring(rt: HostRuntime) -> Result<(), Fail> {
-    check_cases(&rt, rt.alloc(), &FURTHER_CASES)
+    check_cases(&rt, rt.alloc(), FURTHER_CASES)
 }
 
 /// Values of this type may go to another thread.
 fn assert_goes<T: Send>(_value: &T) {}
 
-#[test]
-fn the_greatest_message(rt: HostRuntime) -> Result<(), Fail> {
-    let mut listener = Listener::new(rt.alloc());
-    assert_goes(&listener);
-    // a BAM of 1,785 bytes in 255 packets
+/// What the frames of a message of 1,785 bytes in 255 packets bring, each of the same byte seven times.
+fn greatest(rt: &impl Abort, listener: &mut Listener) -> Result<TpOut, AllocError> {
     let mut out = listener.step(
         0,
         0x18EC_FF00,
         &[0x20, 0xF9, 0x06, 0xFF, 0xFF, 0xCA, 0xFE, 0],
     )?;
     for number in 1..=255u8 {
-        assert_eq!(rt; matches!(out, TpOut::Nothing), true);
+        assert!(rt; matches!(out, TpOut::Nothing));
         out = listener.step(0, 0x18EB_FF00, &[number; 8])?;
     }
-    if let TpOut::Whole { bytes, .. } = &out {
-        assert_eq!(rt; bytes.bytes().len(), 1_785);
-        for (place, byte) in bytes.bytes().iter().enumerate() {
-            assert_eq!(rt; usize::from(*byte), place / 7 + 1);
-        }
+    Ok(out)
+}
+
+fn assert_sevenfold(rt: &impl Abort, bytes: &[u8]) {
+    assert_eq!(rt; bytes.len(), 1_785);
+    for (place, byte) in bytes.iter().enumerate() {
+        assert_eq!(rt; usize::from(*byte), place / 7 + 1);
     }
-    assert_eq!(rt; matches!(out, TpOut::Whole { .. }), true);
+}
+
+#[test]
+fn the_greatest_message(rt: HostRuntime) -> Result<(), Fail> {
+    let mut listener = Listener::new(rt.alloc());
+    assert_goes(&listener);
+    let out = greatest(&rt, &mut listener)?;
+    assert!(rt; matches!(out, TpOut::Whole { .. }));
+    if let TpOut::Whole { bytes, .. } = &out {
+        assert_sevenfold(&rt, bytes.bytes());
+    }
     Ok(())
+}
+
+/// Connection management of 7 bytes and of none, one of 8 bytes, a packet of 64, and the opening once more. Neither of
+/// the first two opened a session, which the third would cut.
+const ODD_LENGTHS: &[(u32, &[u8])] = &[
+    (0x18EC_FF00, &[0x20, 0x0A, 0, 2, 0xFF, 0xCA, 0xFE]),
+    (0x18EC_FF00, &[]),
+    (0x18EC_FF00, &[0x20, 0x0A, 0, 2, 0xFF, 0xCA, 0xFE, 0]),
+    (0x18EB_FF00, &[1; 64]),
+    (0x18EC_FF00, &[0x20, 0x0A, 0, 2, 0xFF, 0xCA, 0xFE, 0]),
+];
+
+/// What frames of any length bring, one after another.
+fn answers_of_any_length(alloc: Global, frames: &[(u32, &[u8])]) -> Result<String, AllocError> {
+    let mut listener = Listener::new(alloc);
+    let mut text = String::new(alloc);
+    for (id, bytes) in frames {
+        hear(alloc, &mut listener, &mut text, (0, *id), bytes)?;
+    }
+    Ok(text)
 }
 
 #[test]
 fn frames_of_other_lengths_bring_nothing(rt: HostRuntime) -> Result<(), Fail> {
-    let mut listener = Listener::new(rt.alloc());
-    let bam = [0x20, 0x0A, 0, 2, 0xFF, 0xCA, 0xFE, 0];
-    let long = [1; 64];
-    assert_eq!(rt;
-        matches!(listener.step(0, 0x18EC_FF00, &bam[..7])?, TpOut::Nothing),
-        true
-    );
-    assert_eq!(rt;
-        matches!(listener.step(0, 0x18EC_FF00, &[])?, TpOut::Nothing),
-        true
-    );
-    // neither opened a session, which would be cut now
-    assert_eq!(rt;
-        matches!(listener.step(0, 0x18EC_FF00, &bam)?, TpOut::Nothing),
-        true
-    );
-    assert_eq!(rt;
-        matches!(listener.step(0, 0x18EB_FF00, &long)?, TpOut::Nothing),
-        true
-    );
-    let again = listener.step(0, 0x18EC_FF00, &bam)?;
-    assert_eq!(rt;
-        matches!(
-            again,
-            TpOut::Cut {
-                pgn: 65_226,
-                sa: 0,
-                da: 255,
-                cause: CutCause::Again
-            }
-        ),
-        true
-    );
+    let text = answers_of_any_length(rt.alloc(), ODD_LENGTHS)?;
+    assert_eq!(rt; text.as_str(), "-; -; -; -; 65226 0 255 again");
     Ok(())
 }
 

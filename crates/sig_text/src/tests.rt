@@ -3,29 +3,43 @@ use std::alloc::Global;
 use std::process::Abort;
 use std::test::Fail;
 
+/// Appends a token, behind a comma where one is before it.
+fn push_token(alloc: Global, text: &mut String, token: Token) -> Result<(), Fail> {
+    if !text.is_empty() {
+        text.push_str(", ")?;
+    }
+    let Token { kind, at, end } = token;
+    text.push_str(format!(in alloc; "{kind:?} {at}-{end}")?.as_str())?;
+    Ok(())
+}
+
+/// The tokens in words.
+fn words_of(alloc: Global, list: &[Token]) -> Result<String, Fail> {
+    let mut text = String::new(alloc);
+    for token in list {
+        push_token(alloc, &mut text, *token)?;
+    }
+    Ok(text)
+}
+
+/// A fault, with the place where it is.
+fn fault_at(alloc: Global, fault: &str, at: usize) -> Result<String, Fail> {
+    Ok(format!(in alloc; "{fault} {at}")?)
+}
+
 /// The tokens, or the fault, in words.
 fn shown(alloc: Global, reading: Result<Vec<Token>, LexFault>) -> Result<String, Fail> {
     match reading {
-        Ok(list) => {
-            let mut text = String::new(alloc);
-            for token in &list {
-                let Token { kind, at, end } = *token;
-                if !text.is_empty() {
-                    text.push_str(", ")?;
-                }
-                text.push_str(format!(in alloc; "{kind:?} {at}-{end}")?.as_str())?;
-            }
-            Ok(text)
-        }
-        Err(LexFault::OpenString { at }) => Ok(format!(in alloc; "open string {at}")?),
-        Err(LexFault::OpenComment { at }) => Ok(format!(in alloc; "open comment {at}")?),
-        Err(LexFault::Byte { at }) => Ok(format!(in alloc; "byte {at}")?),
-        Err(LexFault::Memory) => Ok(format!(in alloc; "memory")?),
+        Ok(list) => words_of(alloc, &list),
+        Err(LexFault::OpenString { at }) => fault_at(alloc, "open string", at),
+        Err(LexFault::OpenComment { at }) => fault_at(alloc, "open comment", at),
+        Err(LexFault::Byte { at }) => fault_at(alloc, "byte", at),
+        Err(LexFault::Memory) => Ok(String::from_str(alloc, "memory")?),
     }
 }
 
 /// Texts that read alike with and without comments.
-const ALIKE: [(&[u8], &str); 78] = [
+const ALIKE: &[(&[u8], &str)] = &[
     // White space, and the byte order mark at the head alone.
     (b"", ""),
     (b" ", ""),
@@ -138,7 +152,7 @@ const ALIKE: [(&[u8], &str); 78] = [
 ];
 
 /// Texts with comments, read without them.
-const WITHOUT_COMMENTS: [(&[u8], &str); 16] = [
+const WITHOUT_COMMENTS: &[(&[u8], &str)] = &[
     (b"//", "byte 0"),
     (b"a // b\nc", "byte 2"),
     (b"a//b", "byte 1"),
@@ -158,7 +172,7 @@ const WITHOUT_COMMENTS: [(&[u8], &str); 16] = [
 ];
 
 /// The same texts, read with comments.
-const WITH_COMMENTS: [(&[u8], &str); 16] = [
+const WITH_COMMENTS: &[(&[u8], &str)] = &[
     (b"//", ""),
     (b"a // b\nc", "Word 0-1, Word 7-8"),
     (b"a//b", "Word 0-1"),
@@ -192,11 +206,17 @@ fn reads(
 }
 
 #[test]
-fn reads_texts_as_the_tables_say(rt: HostRuntime) -> Result<(), Fail> {
-    reads(&rt, rt.alloc(), false, &ALIKE)?;
-    reads(&rt, rt.alloc(), true, &ALIKE)?;
-    reads(&rt, rt.alloc(), false, &WITHOUT_COMMENTS)?;
-    reads(&rt, rt.alloc(), true, &WITH_COMMENTS)
+fn texts_without_comments_read_alike_with_and_without(rt: HostRuntime) -> Result<(), Fail> {
+    for comments in [false, true] {
+        reads(&rt, rt.alloc(), comments, ALIKE)?;
+    }
+    Ok(())
+}
+
+#[test]
+fn comments_are_read_where_they_may_come(rt: HostRuntime) -> Result<(), Fail> {
+    reads(&rt, rt.alloc(), false, WITHOUT_COMMENTS)?;
+    reads(&rt, rt.alloc(), true, WITH_COMMENTS)
 }
 
 /// The content of the first string of a text with comments.
@@ -211,7 +231,7 @@ fn first_content(alloc: Global, bytes: &[u8]) -> Result<Vec<u8>, Fail> {
 }
 
 /// Texts, and the content of their first string in UTF-8.
-const CONTENTS: [(&[u8], &[u8]); 14] = [
+const CONTENTS: &[(&[u8], &[u8])] = &[
     (b"\"\"", b""),
     (b"1 \"rpm\" x", b"rpm"),
     (b"\"a\nb\"", b"a\nb"),
@@ -245,5 +265,5 @@ fn says(rt: &impl Abort, alloc: Global, rows: &[(&[u8], &[u8])]) -> Result<(), F
 
 #[test]
 fn contents_are_in_utf8(rt: HostRuntime) -> Result<(), Fail> {
-    says(&rt, rt.alloc(), &CONTENTS)
+    says(&rt, rt.alloc(), CONTENTS)
 }

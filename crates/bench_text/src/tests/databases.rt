@@ -1,13 +1,14 @@
 //! The databases of the worked logs.
 ghost use Rattle.std.specs.Prelude.{◌≡◌, IfOk};
 ghost use Rattle.exact_scale.specs.Limits.{IsScale};
-ghost use Rattle.bench_model.specs.Limits.{IsMade, IsCoding};
+ghost use Rattle.multiplex_tree.specs.Trees.{IsTreeOver};
+ghost use Rattle.bench_model.specs.Limits.{IsMade, IsEntry, IsCoding};
 ghost use Rattle.bench_model.specs.ValidBench.{IsValidBus};
 
 use bench_model::*;
 use exact_scale::{Decimal, Scale};
-use multiplex_tree::{List, Mark, resolve};
-use std::alloc::Global;
+use multiplex_tree::{List, Mark, Tree, resolve};
+use std::alloc::{AllocError, Global};
 use std::test::Fail;
 
 /// How a signal is read: scaled, or as a LIN encoding with a text for one raw value before a range.
@@ -93,57 +94,98 @@ fn scale_of(factor: &str, offset: &str) -> Result<Scale, Fail>
     Ok(Scale::new(factor, offset)?)
 }
 
+fn text_of(alloc: Global, text: &str) -> Result<Text, AllocError> {
+    Text::of(alloc, text.as_bytes())
+}
+
+fn scaled_of(alloc: Global, factor: &str, unit: &str) -> Result<Coding, Fail>
+    ensures { IfOk result IsCoding }
+{
+    let scale = scale_of(factor, "0")?;
+    let unit = text_of(alloc, unit)?;
+    let labels = List::of(Vec::new(alloc));
+    Ok(Coding::Scaled {
+        scale,
+        unit,
+        labels,
+    })
+}
+
+fn logical_of(alloc: Global, raw: u64, text: &str) -> Result<Entry, Fail>
+    ensures { IfOk result IsEntry }
+{
+    let text = Some(text_of(alloc, text)?);
+    Ok(Entry::Logical { raw, text })
+}
+
+fn range_of(alloc: Global, scale: Scale, unit: &str) -> Result<Entry, Fail>
+    requires { IsScale scale }
+    ensures { IfOk result IsEntry }
+{
+    let unit = text_of(alloc, unit)?;
+    Ok(Entry::Physical {
+        low: 0,
+        high: 255,
+        scale,
+        unit,
+    })
+}
+
 fn coding_of(alloc: Global, row: &CodingRow) -> Result<Coding, Fail>
     ensures { IfOk result IsCoding }
 {
     match row {
-        CodingRow::Scaled { factor, unit } => Ok(Coding::Scaled {
-            scale: scale_of(factor, "0")?,
-            unit: Text::of(alloc, unit.as_bytes())?,
-            labels: List::of(Vec::new(alloc)),
-        }),
+        CodingRow::Scaled { factor, unit } => scaled_of(alloc, factor, unit),
         CodingRow::Listed {
             text_at: (raw, text),
             factor,
             offset,
             unit,
         } => {
-            let logical = Entry::Logical {
-                raw: *raw,
-                text: Some(Text::of(alloc, text.as_bytes())?),
-            };
-            let range = Entry::Physical {
-                low: 0,
-                high: 255,
-                scale: scale_of(factor, offset)?,
-                unit: Text::of(alloc, unit.as_bytes())?,
-            };
-            Ok(Coding::Listed {
-                entries: List::of(vec![in alloc; logical, range]?),
-            })
+            let scale = scale_of(factor, offset)?;
+            let logical = logical_of(alloc, *raw, text)?;
+            let range = range_of(alloc, scale, unit)?;
+            let entries = List::of(vec![in alloc; logical, range]?);
+            Ok(Coding::Listed { entries })
         }
     }
 }
 
-fn message_of(alloc: Global, row: &MessageRow) -> Result<Message, Fail>
-    ensures { IfOk result IsMade }
+fn signal_of(alloc: Global, row: &MessageRow) -> Result<Signal, Fail>
+    ensures { IfOk result (λ signal. IsCoding signal.coding) }
 {
-    let signal = Signal {
-        name: Text::of(alloc, row.signal.as_bytes())?,
+    let coding = coding_of(alloc, &row.coding)?;
+    let name = text_of(alloc, row.signal)?;
+    Ok(Signal {
+        name,
         start: row.start,
         size: row.size,
         order: Order::Intel,
         signed: false,
         float: false,
-        coding: coding_of(alloc, &row.coding)?,
-    };
+        coding,
+    })
+}
+
+/// The tree of one signal.
+fn tree_of_one(alloc: Global) -> Result<Tree, Fail>
+    ensures { IfOk result (λ tree. IsTreeOver 1 tree.parents) }
+{
     let mark = Mark {
         multiplexor: false,
         group: None,
     };
-    let tree = resolve(alloc, &[mark], &[])?;
+    Ok(resolve(alloc, &[mark], &[])?)
+}
+
+fn message_of(alloc: Global, row: &MessageRow) -> Result<Message, Fail>
+    ensures { IfOk result IsMade }
+{
+    let tree = tree_of_one(alloc)?;
+    let name = text_of(alloc, row.name)?;
+    let signal = signal_of(alloc, row)?;
     Ok(Message {
-        name: Text::of(alloc, row.name.as_bytes())?,
+        name,
         key: row.key,
         length: 8,
         signals: List::of(vec![in alloc; signal]?),

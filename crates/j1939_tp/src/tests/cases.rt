@@ -53,7 +53,7 @@ const ZERO: u64 = 0x0000_0000_0000_0000;
 
 const OTHER_CONTROL: u64 = 0x120A_0002_FFCA_FE00;
 
-pub(super) const CASES: [Case; 31] = [
+pub(super) const CASES: &[Case] = &[
     Case {
         name: "a broadcast of two packets",
         frames: &[
@@ -337,7 +337,7 @@ pub(super) const CASES: [Case; 31] = [
     },
 ];
 
-pub(super) const FURTHER_CASES: [Case; 8] = [
+pub(super) const FURTHER_CASES: &[Case] = &[
     Case {
         name: "a pause too long comes before a packet left out",
         frames: &[(0, CM_THERE, RTS), (1_250_001, DT_THERE, TWO)],
