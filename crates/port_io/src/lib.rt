@@ -10,7 +10,7 @@
 //!
 //! The main theorem: `read_whole` answers Ok, where the library tells its files, with the named
 //! file's bytes and no others, `Open` and `Read` only where the library's own count of such faults rose, and `Long` exactly where more
-//! than the limit was taken; out of memory alone may come at any time.
+//! than the limit was taken; out of memory alone is free.
 //!
 //! The member `other` of sources and sinks is for the two ends of a connection, which are to come.
 #![tactic(auto)]
