@@ -1,4 +1,4 @@
--- What a library tells before and after calls, and which names it was asked for.
+-- What a library shows before and after calls, and which names it was asked for.
 use Rattle.std.specs.Prelude.{◌≡◌, ℕ, ◌≤◌, List, [], ◌∷◌, ◌++◌, Option}
 use Rattle.port_io.specs.Library.{strays_after}
 

@@ -1,4 +1,4 @@
--- what a library tells, and what is asked of it
+-- what a library shows, and what is asked of it
 pub mod Asking
 -- the files of a bench
 pub mod BenchFiles

@@ -1,4 +1,4 @@
--- What the readers of a bench's files answer, over what their library tells before and after.
+-- What the readers of a bench's files answer, over what their library shows before and after.
 use Rattle.std.specs.Prelude.{◌≡◌, ℕ, ◌++◌, Bool, List, [], ◌∷◌, length, Option, IfSome, Result, Ok, Err, Vec}
 use Rattle.std.specs.List.{AllZip}
 use Rattle.std.specs.declared.alloc.Global.{Global}
@@ -80,11 +80,11 @@ abbrev pub ReadsDatabases : LibraryState → List PlannedBus → Result (Vec Dat
 ReadsDatabases before buses (Ok read) now = ReadsAll before buses read.items now
 ReadsDatabases before buses (Err why) now = StopsReading before buses why now
 
--- what a log tells
+-- what a log shows
 abbrev pub log_state : Option (List ℕ) → Option (List ℕ) → ℕ → Bool → SourceState
 log_state left taken read_faults ended = record { left = left; taken = taken; read_faults = read_faults; ended = ended }
 
--- a log just opened, by what it tells
+-- a log just opened, by what it shows
 abbrev pub IsFresh : Option Files → List ℕ → SourceState → Type 0
 IsFresh files name log = IsFreshLog files name log.left log.taken log.read_faults log.ended
 

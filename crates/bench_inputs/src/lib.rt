@@ -1,7 +1,7 @@
 //! The inputs of a bench, in the order in which every call reads them: the bench file, the databases, the logs.
 //!
 //! A library of `port_io` opens files by name, and `bench_file` reads the plan; here each phase is one call, with
-//! what the library tells before and after as one relation. The tool and the server read their bench by them; the
+//! what the library shows before and after as one relation. The tool and the server read their bench by them; the
 //! databases are read first, all of them, and judged by their callers after that.
 //!
 //! Main theorem: each phase asks the library for its names alone, in order; on Ok what it gives is what the named files

@@ -3,7 +3,7 @@
 //!
 //! `mill_database` gives the text of the database, which `dbc_grammar` reads and `image_compiler` makes an image of; `mill_log`
 //! makes the log piece by piece, `byte_forms` and `candump_log` read its lines, and `image_words` gives the meaning of each
-//! frame. What prints the three lines is above it.
+//! frame. What prints the three lines lies above this crate.
 //!
 //! Main theorem: unless memory runs out, `mill` answers how many frames of the log a message matches, how many signals they
 //! have, and the sum of their raw values, all by the plain meaning of the log's lines; and a law says that these lines are the

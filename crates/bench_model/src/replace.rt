@@ -19,7 +19,7 @@ pub struct Change {
     pub database: Valid,
 }
 
-/// Where the first change is that names the bus at this place.
+/// The place of the first change that names the bus at this place.
 fn change_of(place: usize, changes: &[Change]) -> Option<usize>
     ensures { result ≡ position (names_bus place) changes.now }
 {

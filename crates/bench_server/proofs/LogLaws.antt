@@ -111,7 +111,7 @@ unread_from files names logs heard log behind f e =
     let each = rest_each IsUnread heard log behind (subst (λ (ls : List SourceState). AllByRecursion IsUnread ls) e (unread_each files names logs f)) in
     (each.0, All-from_recursion IsUnread behind each.1)
 
--- no log that was opened has ended, by what each tells
+-- no log that was opened has ended, by what each shows
 ended_each : {L : Type 0} (source_state : L → SourceState) (files : Option Files) (names : List (List ℕ)) (logs : List L) → AllZip (IsFresh files) names (map source_state logs)
     → AllByRecursion (λ log. (source_state log).ended ≡ false) logs
 ended_each source_state files [] [] f = tt

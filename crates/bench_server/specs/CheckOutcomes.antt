@@ -1,5 +1,5 @@
 -- How a run of `check` ends: for each status its cause, whatever is known of the outside, and what it shows where the
--- library tells its files.
+-- library shows its files.
 use Rattle.std.specs.Prelude.{◌≡◌, ℕ, List, [], Some, None, IfSome, IsSome}
 use Rattle.port_io.specs.Causes.{Rose}
 use Rattle.port_io.specs.Library.{named}

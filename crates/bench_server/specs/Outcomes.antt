@@ -1,5 +1,5 @@
 -- How a run of `decode` ends. One table says what caused each status, whatever is known of the outside, and one what it
--- shows where the library tells its files.
+-- shows where the library shows its files.
 use Rattle.std.specs.Prelude.{◌≡◌, ◌⊎◌, ℕ, ◌<◌, ◌≤◌, true, false, List, [], ◌∷◌, ◌++◌, length, take, zip, All, Some, None, IfSome}
 use Rattle.std.specs.List.{AllZip}
 use Rattle.std.specs.Option.{option_map}

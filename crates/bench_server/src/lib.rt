@@ -6,7 +6,7 @@
 //! phases follow one another, and each way in which they end is a `Status` with a line on the error output. The program
 //! `sigserve` hands it the real files and streams.
 //!
-//! Main theorem: where the library tells its files, `run_tool` has on Ok appended to its output exactly the tool's
+//! Main theorem: where the library shows its files, `run_tool` has on Ok appended to its output exactly the tool's
 //! text, a function of its words and of the bytes of the files, and every other status but out of memory has its cause.
 #![tactic(auto)]
 

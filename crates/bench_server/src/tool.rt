@@ -26,7 +26,7 @@ use port_io::{Library, Sink};
 use std::alloc::Global;
 use tool_words::{Command, command_of};
 
-/// What a run of the tool left: its status, and the logs that were opened, in order of buses, as they are.
+/// What a run of the tool left: its status, and the logs that were opened, in order of buses, as they were left.
 #[derive(Drop)]
 pub struct Ran<S> {
     pub status: Status,

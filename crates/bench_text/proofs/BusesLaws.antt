@@ -146,7 +146,7 @@ lines_known : (left : Option (List ℕ)) (lines : List (List ℕ)) (bytes : List
     → IfSome left (λ b. lines ≡ all_lines b) → lines ≡ all_lines bytes
 lines_known left lines bytes e h = let P : Option (List ℕ) → Type 0 = λ o. IfSome o (λ b. lines ≡ all_lines b) in subst P e h
 
--- what was given of a bus whose log tells its bytes begins its whole text
+-- what was given of a bus whose log shows its bytes begins its whole text
 whole_given : (place : ℕ) (bytes : List ℕ) {w : WantList} {bench : Bench} {log log_now : SourceState} {before now : Output} (q : PrintsLines w bench (bus_at bench place) log log_now before now)
     → log.left ≡ Some bytes → q.given ++ q.ahead ≡ whole_text w bench place bytes
 whole_given place bytes {w} {bench} {log} q e = q.prefix ∙ ap (λ lines. bus_text w bench (bus_at bench place) (map line_of lines)) (lines_known log.left q.lines bytes e q.known)

@@ -1,4 +1,4 @@
--- Where all logs tell their bytes, those of the logs before the one at which a print stopped are the first ones, and what was
+-- Where all logs show their bytes, those of the logs before the one at which a print stopped are the first ones, and what was
 -- written is a prefix of the text of the bench.
 use Rattle.std.proofs.Common.{◌≡◌, ℕ, List, [], ◌∷◌, ◌++◌, length, take, Option, None, Some, IfSome, refl, sym, ap, subst, ◌∙◌}
 use Rattle.std.proofs.Math.Seq.{take-append_seam}
@@ -42,7 +42,7 @@ some_same x y e = cc
 none_some : {A : Type 0} (x : A) → Some x ≡ None → ⊥
 none_some x e = cc
 
--- the bytes taken of a log that tells its bytes, and those that it still has
+-- the bytes taken of a log that shows its bytes, and those that it still has
 taken_first : (one took : List ℕ) (now : Option (List ℕ)) → Some one ≡ prepend_known took now → (left : List ℕ) × (one ≡ took ++ left)
 taken_first one took None e = absurd (none_some one e)
 taken_first one took (Some left) e = (left, some_same one (took ++ left) e)

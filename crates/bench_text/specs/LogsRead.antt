@@ -4,7 +4,7 @@ use Rattle.std.specs.List.{AllZip}
 use Rattle.port_io.specs.OtherSide.{SourceState}
 use Rattle.candump_log.specs.Reads.{TakesBytes}
 
--- these logs tell that they have these bytes left
+-- these logs show that they have these bytes left
 abbrev pub HaveLeft : List SourceState → List (List ℕ) → Type 0
 HaveLeft logs bytes = AllZip (λ (log : SourceState) (left : List ℕ). log.left ≡ Some left) logs bytes
 

@@ -27,7 +27,7 @@ pub fn the_text_of_a_bench_goes_on()
     the_text_goes_on()
 }
 
-/// Where all logs tell their bytes, those of the logs before the one at which a print stopped are the first, and that
+/// Where all logs show their bytes, those of the logs before the one at which a print stopped are the first, and that
 /// log's own are next; and what was written is a prefix of the text of the bench.
 pub fn a_fault_leaves_a_prefix_written()
     ensures heard { (place : ℕ) (logs logs_now : List SourceState) (s : StopsAt place logs logs_now) (bytes : List (List ℕ))

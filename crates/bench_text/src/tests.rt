@@ -169,7 +169,7 @@ fn reads_and_writes_of_any_size_give_one_text(rt: HostRuntime) -> Result<(), Fai
 }
 
 /// The second of three logs fails: the first text is whole, the second one goes this far, and the third log is as
-/// it stood.
+/// it was.
 fn assert_stop(
     rt: &impl Abort,
     alloc: Global,

@@ -294,7 +294,7 @@ nothing_read w bench bus log s =
       ends = tt;
     }
 
--- on Ok the text of all lines of a log that tells its bytes was given
+-- on Ok the text of all lines of a log that shows its bytes was given
 whole_text : (w : WantList) (bench : Bench) (bus : BusPlace) (left : Option (List ℕ)) (lines : List (List ℕ)) {before now : Output} {given : List ℕ} → IfSome left (λ bytes. lines ≡ all_lines bytes)
     → given ≡ bus_text w bench bus (map line_of lines) → Buffers before given now → IfSome left (λ bytes. Buffers before (bus_text w bench bus (map line_of (all_lines bytes))) now)
 whole_text w bench bus None lines known e b = tt

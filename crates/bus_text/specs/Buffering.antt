@@ -9,7 +9,7 @@ use Rattle.subscriber_text.specs.declared.fault.PrintRefused.TheVariants as refu
 abbrev pub buffer_limit : ℕ
 buffer_limit = 65536
 
--- a sink and the buffer before it: the bytes written and the count of faults that the sink tells, and what is pending
+-- a sink and the buffer before it: the bytes written and the count of faults that the sink shows, and what is pending
 pub record Output : Type 0 where
   pub written : Option (List ℕ)
   pub write_faults : ℕ

@@ -4,7 +4,7 @@ use Rattle.std.specs.Io.KnownBytes.{append_known}
 use Rattle.port_io.specs.Causes.{Rose}
 use Rattle.port_io.specs.OtherSide.{SinkState}
 
--- what a sink tells
+-- what a sink shows
 abbrev pub sink_state : Option (List ℕ) → ℕ → SinkState
 sink_state written write_faults = record { written = written; write_faults = write_faults }
 

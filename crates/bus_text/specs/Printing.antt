@@ -16,7 +16,7 @@ use Rattle.bus_text.specs.BusText.{text_so_far, bus_text}
 use Rattle.bus_text.specs.Buffering.{Output, Buffers}
 
 -- What was taken of the log, and what of its text was given to the buffer: a prefix. `lines` are the texts of all
--- lines of the log where it tells its bytes, and `read` those that were read.
+-- lines of the log where it shows its bytes, and `read` those that were read.
 pub record PrintsLines (w : WantList) (bench : Bench) (bus : BusPlace) (log log' : SourceState) (before now : Output) : Type 0 where
   pub took : List ℕ
   pub takes : TakesBytes log log' took

@@ -46,7 +46,7 @@ impl<'a> RecordPrinter<'a> {
         }
     }
 
-    /// Begins the text of the record that is there.
+    /// Begins the text of the record at this place.
     pub(crate) fn begin(&mut self, place: RecordPlace)
         ensures wants { self.new.wants.now ≡ self.old.wants.now }
         ensures place { self.new.place ≡ place }

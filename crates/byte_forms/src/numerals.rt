@@ -6,7 +6,7 @@ ghost use Rattle.byte_forms.specs.Numerals.{base_of, digit_class, number_up_to};
 
 use crate::Class;
 
-/// In which digits a number is.
+/// In which digits a number is written.
 #[derive(Clone, Copy, Debug, PartialEq, Eq)]
 pub enum Radix {
     Decimal,

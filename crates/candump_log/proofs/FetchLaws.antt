@@ -224,7 +224,7 @@ stopped_by : (o : Option (List ℕ)) (ended : Bool) (place : Place) (was : List 
 stopped_by None ended place was open' s plain = refl
 stopped_by (Some bytes) ended place was open' s plain = ap (λ (ts : List (List ℕ)). Some ts) (stopped_known ended place was bytes open' s plain)
 
--- a source that tells the same, but for its count
+-- a source that shows the same, but for its count
 failed_keeps : (src src' : SourceState) (was : List ℕ) (place : Place) → Keeps src was place → src'.left ≡ src.left → src'.taken ≡ src.taken → src'.ended ≡ src.ended → Keeps src' was place
 failed_keeps src src' was place k left taken ended =
     let T : Option (List ℕ) → Type 0 = λ t. IfSome t (λ bytes. place.taken ≤ length bytes) × IfSome (log_by place.taken t) (IsAt src'.ended place was) in

@@ -89,7 +89,7 @@ length-zeros : length zeros ≡ 513
 unfolding zeros
 length-zeros = length-replicate {A = ℕ} 513 0
 
--- where the source tells nothing, bytes that were let go are any so many
+-- where the source shows nothing, bytes that were let go are any so many
 unknown : Bool → List ℕ → List ℕ
 unknown long piece = cond long zeros [] ++ piece
 

@@ -100,7 +100,7 @@ reads_none l m l' read r a none = advances l m l' read read r a (none.texts ∙ 
 
 -- ---- the lines of the whole log
 
--- a log that tells its bytes left tells those taken
+-- a log that shows its bytes left shows those taken
 some_taken : (taken left : Option (List ℕ)) (n : ℕ) (bytes : List ℕ) → joined (log_by n taken) left ≡ Some bytes → taken ≡ None → ⊥
 some_taken taken left n bytes j e = none-some _ (sym (ap (λ (o : Option (List ℕ)). joined (log_by n o) left) e) ∙ j)
 

@@ -9,8 +9,8 @@ use Rattle.candump_log.specs.LineOf.{line_of}
 abbrev pub log_limit : ℕ
 log_limit = 2 ^ 40
 
--- what its source tells, how many bytes were taken of it since the reader was made and how many lines were given, the
--- texts of these lines where the source tells its bytes, whether one more can be given without asking the source, and
+-- what its source shows, how many bytes were taken of it since the reader was made and how many lines were given, the
+-- texts of these lines where the source shows its bytes, whether one more can be given without asking the source, and
 -- whether a call was refused
 pub record LinesState : Type 0 where
   pub source : SourceState
@@ -21,7 +21,7 @@ pub record LinesState : Type 0 where
   pub ready : Bool
   pub failed : Bool
 
--- what a source tells
+-- what a source shows
 abbrev pub source_state : Option (List ℕ) → Option (List ℕ) → ℕ → Bool → SourceState
 source_state left taken read_faults ended = record { left = left; taken = taken; read_faults = read_faults; ended = ended }
 

@@ -140,7 +140,7 @@ impl<S: Source> Lines<S> {
         self.place.taken
     }
 
-    /// The source, as it is.
+    /// The source, as it was left.
     pub fn into_source(self) -> S
         ensures source { source_state (S.left result) (S.taken result) (S.read_faults result) (S.ended result)
             ≡ self.source }

@@ -52,7 +52,7 @@ pub database_read : (text : List ℕ) (kept : Kept) (utf8 : Bool) (d : Database)
 database_read text kept utf8 d (Ok v) read is_utf8 are same valid = record {
   statements = read.statements;
   are_statements = read.are_statements;
-  build_database = subst (Gathers text read.statements) (sym same) (gathers text kept utf8 d read is_utf8 are);
+  gathers = subst (Gathers text read.statements) (sym same) (gathers text kept utf8 d read is_utf8 are);
   valid = valid;
 }
 database_read text kept utf8 d (Err fault) read is_utf8 are same valid = tt

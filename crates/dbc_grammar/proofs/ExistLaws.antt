@@ -241,7 +241,7 @@ judged found bytes statements d are gathers =
     let forms = messages_of statements in
     elim (found.verdict d
     (rec-all IsMade d.messages (messages_made bytes gathers.utf8 noted forms 0 forms d.messages found.over gathers.messages))) [
-      | inl valid ↦ inl (d, record { statements = statements; are_statements = are; build_database = gathers; valid = valid })
+      | inl valid ↦ inl (d, record { statements = statements; are_statements = are; gathers = gathers; valid = valid })
       | inr fault ↦ inr (faults.Check fault.0, (statements, d, are, gathers, fault.1))
     ]
 

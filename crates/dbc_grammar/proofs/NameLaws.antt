@@ -132,8 +132,8 @@ all_words : FoundStatements → (text : List ℕ) (d : Database) → IsDatabaseO
 all_words law text d is =
     let forms = messages_of is.statements in
     rec-all HasWords d.messages
-    (messages_words text is.build_database.utf8 (noted_in text (notes_of is.statements)) forms 0 forms d.messages
-    (messages_name text is.statements (statements_name law text is.statements is.are_statements)) is.build_database.messages)
+    (messages_words text is.gathers.utf8 (noted_in text (notes_of is.statements)) forms 0 forms d.messages
+    (messages_name text is.statements (statements_name law text is.statements is.are_statements)) is.gathers.messages)
 
 pub names_of_text : FoundStatements → (text : List ℕ) (d : Database) → IsDatabaseOf text d → KeepsRules d → HasNames d
 names_of_text law text d is keeps = λ k e h.

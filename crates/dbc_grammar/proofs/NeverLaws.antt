@@ -90,16 +90,16 @@ never_both once tree reading run lex treeless rule bytes d (faults.Lex fault) is
 never_both once tree reading run lex treeless rule bytes d (faults.Statement at) is has = not_early reading run bytes is.statements at is.are_statements has
 never_both once tree reading run lex treeless rule bytes d (faults.Scale at) is has =
     let same = one_statements reading run bytes has.statements is.statements has.are_statements is.are_statements in
-    no_wide bytes is.statements d at is.build_database
+    no_wide bytes is.statements d at is.gathers
     (subst (λ (s : List Statement). IsFirstWide bytes (all_signals (messages_of s)) at) same has.wide)
 never_both once tree reading run lex treeless rule bytes d (faults.Mux id name why) is has =
     let same = one_statements reading run bytes has.statements is.statements has.are_statements is.are_statements in
-    no_treeless treeless bytes is.statements d id name why is.build_database
+    no_treeless treeless bytes is.statements d id name why is.gathers
     (subst (λ (s : List Statement). IsFirstTreeless bytes (noted_in bytes (notes_of s)) (messages_of s) id name why) same has.treeless)
 never_both once tree reading run lex treeless rule bytes d (faults.Check fault) is has =
     let same = one_statements reading run bytes has.0 is.statements has.2 is.are_statements in
-    let build_database = subst (λ (s : List Statement). Gathers bytes s has.1) same has.3 in
-    let database = one_gathered once tree bytes is.statements has.1 d build_database is.build_database in
+    let gathers = subst (λ (s : List Statement). Gathers bytes s has.1) same has.3 in
+    let database = one_gathered once tree bytes is.statements has.1 d gathers is.gathers in
     rule d fault is.valid (subst (λ (e : Database). IsFirstFault e fault) database has.4)
 never_both once tree reading run lex treeless rule bytes d faults.Memory is has = has
 

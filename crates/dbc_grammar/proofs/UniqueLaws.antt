@@ -123,4 +123,4 @@ pub one_database : OneScale → OneTree → OneReading → OneRun → (bytes : L
 one_database once tree reading run bytes d e id ie =
     let statements = one_statements reading run bytes id.statements ie.statements id.are_statements ie.are_statements in
     one_gathered once tree bytes ie.statements d e
-    (subst (λ (s : List Statement). Gathers bytes s d) statements id.build_database) ie.build_database
+    (subst (λ (s : List Statement). Gathers bytes s d) statements id.gathers) ie.gathers

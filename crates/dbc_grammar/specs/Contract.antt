@@ -80,7 +80,7 @@ pub record Gathers (text : List ℕ) (statements : List Statement) (d : Database
 pub record IsDatabaseOf (bytes : List ℕ) (d : Database) : Type 0 where
   pub statements : List Statement
   pub are_statements : AreStatements bytes statements
-  pub build_database : Gathers bytes statements d
+  pub gathers : Gathers bytes statements d
   pub valid : IsValid d
 
 pub record IsScaleFault (bytes : List ℕ) (at : ℕ) : Type 0 where

@@ -121,7 +121,7 @@ abbrev pub VariableTexts : List ℕ → List Token → List Token → Type 0
 VariableTexts text =
     Quoted text (codes "VAL_") ▸ Any (One IsWord) ▸ Any (Each (ParsesText text)) ▸ Quoted text (codes ";")
 
--- where neither those of a signal nor those of a variable are: VAL_ , any tokens but ; and statement words, ;
+-- where neither those of a signal nor those of a variable are found: VAL_ , any tokens but ; and statement words, ;
 abbrev pub LenientTexts : List ℕ → List Token → List Token → Type 0
 LenientTexts text tokens rest =
     (Quoted text (codes "VAL_") ▸ AllOf (λ token. IsTrue (is_before_statement text token)) ▸ Quoted text (codes ";")) tokens rest
@@ -142,7 +142,7 @@ pub data IsMark (text : List ℕ) (mark : Mark) : Type 0 where
   grouped : (digits : List ℕ) → text ≡ codes "m" ++ digits → IsGroupMark digits false mark → IsMark text mark
   both : (digits : List ℕ) → text ≡ codes "m" ++ digits ++ codes "M" → IsGroupMark digits true mark → IsMark text mark
 
--- a Word that is a mark, or none where no Word is
+-- a Word that is a mark, or none where there is no Word
 abbrev pub no_mark : Mark
 no_mark = record { multiplexor = false; group = None }
 

@@ -55,7 +55,7 @@ pub fn one_database_or_one_fault()
     database_is_unique();
 }
 
-/// The statements that are read of tokens are at their front one behind another, as many as there are, and no others do.
+/// The statements that are read of tokens are at their front one behind another, as many as there are, and no others are.
 pub fn statements_are_the_longest_run()
     ensures longest { (text : List ℕ) (tokens : List Token) →
         Each (Parses text) (run_of (statement_at text) tokens).0 tokens (run_of (statement_at text) tokens).1 }

@@ -1,6 +1,6 @@
 //! The reader of whole DBC files, the databases of CAN and J1939 buses.
 //!
-//! `read_dbc` gives the database of a file's bytes, which passed `check`, or the first fault with its place. It is
+//! `read_dbc` gives the database of a file's bytes, which passed `check`, or the first fault with its place. It builds
 //! on `sig_text` and `token_forms` (tokens, and what readers of statements share), `exact_scale` (scalings),
 //! `multiplex_tree` (trees of signals) and `bench_model` (databases and their rules); the loaders of a bench call it.
 //!

@@ -18,13 +18,13 @@ abbrev pub NoSignFirst : List ℕ → Type 0
 NoSignFirst [] = Unit {0}
 NoSignFirst (byte ∷ bytes) = (byte ≡ plus_sign → ⊥) × (byte ≡ minus_sign → ⊥)
 
--- where no sign was taken, none is first
+-- where no sign was taken, the rest begins with none
 abbrev pub TakesSign : Sign → List ℕ → Type 0
 TakesSign NoSign body = NoSignFirst body
 TakesSign Plus body = Unit {0}
 TakesSign Minus body = Unit {0}
 
--- where no point was taken, none is first
+-- where no point was taken, the rest begins with none
 abbrev pub TakesPoint : Option (List ℕ) → List ℕ → Type 0
 TakesPoint None rest = NoPointFirst rest
 TakesPoint (Some digits) rest = Unit {0}

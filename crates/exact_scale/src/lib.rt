@@ -2,7 +2,7 @@
 //!
 //! A value is the number that the database states, never a rounding of it. This base crate reads the decimals of
 //! a database (`Decimal::read`), brings a factor and an offset over one power of ten (`Scale::new`), applies them
-//! to a raw value (`Scale::apply`) and writes the outcome (`Exact::append`). `bench_model` is on it for the
+//! to a raw value (`Scale::apply`) and writes the outcome (`Exact::append`). `bench_model` uses it for the
 //! values of signals, and a reader of databases makes the scales; it builds on std, `itoa` and `thiserror`.
 //!
 //! Main theorem: what `read` answers is the fraction that the text denotes over the least power of ten, what

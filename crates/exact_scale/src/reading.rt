@@ -32,7 +32,7 @@ pub enum DecimalFault {
 impl Decimal {
     /// The decimal that a text denotes: an optional sign, digits with at most one point and at least
     /// one digit, and optionally `e` or `E`, an optional sign and digits. `k` is the least number of
-    /// places over which the value is.
+    /// places that the value takes.
     pub fn read(text: &[u8]) -> Result<Decimal, DecimalFault>
         ensures value { IfOk result (λ decimal. Denotes text.now decimal.num decimal.k) }
         ensures narrow { IfOk result (λ decimal. (decimal.k ≤ most_places) × IsNarrow decimal.num) }

@@ -1,4 +1,4 @@
--- The rule of a ring: how the words and the slots of its table compares with what was offered, put and taken. It
+-- The rule of a ring: how the words and the slots of its table agree with what was offered, put and taken. It
 -- holds between any two steps.
 use Rattle.std.specs.Prelude.{◌≡◌, ◌⊎◌, ℕ, ◌+◌, ◌*◌, ◌^◌, ◌%◌, ◌<◌, ◌≤◌, true, false, cond, List, [], ◌++◌}
 use Rattle.std.specs.Prelude.{length, slice_index, slice_get}
@@ -146,7 +146,7 @@ pub record TakeRule (capacity : ℕ) (p : Putting) (t : Taking) (waiting : List 
   pub slot_free : p.holds_slot ≡ true → length waiting < capacity
   -- what the taker has in hand is the oldest item
   pub hand_is : (x : Item) → t.hand ≡ Some x → slice_get waiting 0 ≡ Some x
-  -- what the putter loaded is no higher than what is now
+  -- what the putter loaded is no higher than the number now
   pub attach_seen : p.attach ≤ t.attach
   pub head_seen : p.head ≤ length t.taken
   pub taken : AreTaken t.attach t.taken

@@ -1,5 +1,5 @@
 //! What the rule of a ring remembers of each offer and of each item taken. No value of these types is made:
-//! they are in contracts alone.
+//! they occur in contracts alone.
 
 use bench_model::{Item, Reading};
 
@@ -31,6 +31,6 @@ pub struct Offered {
 /// An item that was taken.
 pub struct Taken {
     pub item: Item,
-    /// The attach word as it then was.
+    /// The attach word at that time.
     pub attach: u64,
 }

@@ -8,7 +8,7 @@ use Rattle.image_words.specs.Layout.{word, EachRow, HasRows}
 use Rattle.image_compiler.specs.Size.{total, table_size}
 use Rattle.image_compiler.specs.Layout.{rows_from, parts_from, table_words}
 
--- these words are from a place on
+-- these words begin at a place
 pub record LiesAt (words : List ℕ) (place : ℕ) (part : List ℕ) : Type 0 where
   pub each : (i : ℕ) → i < length part → get_or words (place + i) 0 ≡ get_or part i 0
 

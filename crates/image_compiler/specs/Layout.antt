@@ -43,7 +43,7 @@ abbrev pub optional_reference : ℕ → Option (List ℕ) → ℕ
 optional_reference place None = 0
 optional_reference place (Some text) = reference place text
 
--- the rows of a list, where what they refer to is one after another from a place on
+-- the rows of a list, where what they refer to begins at a place, one behind another
 unfoldable pub rows_from : {X : Type 0} → (ℕ → X → List ℕ) → (X → ℕ) → ℕ → List X → List ℕ
 rows_from row behind place [] = []
 rows_from row behind place (x ∷ xs) = row place x ++ rows_from row behind (place + behind x) xs

@@ -124,7 +124,7 @@ pub(crate) fn coding_size(coding: &Coding) -> Result<u64, AllocError>
     }
 }
 
-/// The last seven words of a signal's row, where what its coding refers to is from a place on.
+/// The last seven words of a signal's row, where what its coding refers to begins at a place.
 pub(crate) fn write_coding(
     out: &mut Vec<u64>,
     place: u64,
@@ -163,7 +163,7 @@ pub(crate) fn write_coding(
     }
 }
 
-/// What a coding refers to, from a place on.
+/// What a coding refers to, which begins at a place.
 pub(crate) fn write_coding_parts(
     alloc: Global,
     out: &mut Vec<u64>,

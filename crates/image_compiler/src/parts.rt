@@ -12,7 +12,7 @@ pub(crate) trait Parts {
     /// How many words its row refers to.
     ghost behind: { Self → ℕ };
 
-    /// These words, from a place on.
+    /// These words, which begin at a place.
     ghost parts: { ℕ → Self → List ℕ };
 
     /// What its type says.
@@ -23,17 +23,17 @@ pub(crate) trait Parts {
         ensures size { IfOk result (λ n. n ≡ behind self.now) }
         ensures typed { OnOk result (is_typed self.now) };
 
-    /// The words that its row refers to, which are from a place on.
+    /// The words that its row refers to, which begin at a place.
     fn write_parts(&self, alloc: Global, out: &mut Vec<u64>, place: u64) -> Result<(), AllocError>
         ensures { OnOk result (out.new.items ≡ out.old.items ++ parts place self.now) };
 }
 
 /// A part of a bench with a row of its own.
 pub(crate) trait Row: Parts {
-    /// The row, where what it refers to is from a place on.
+    /// The row, where what it refers to begins at a place.
     ghost row_words: { ℕ → Self → List ℕ };
 
-    /// The row, where what it refers to is from a place on.
+    /// The row, where what it refers to begins at a place.
     fn write_row(&self, out: &mut Vec<u64>, place: u64) -> Result<(), AllocError>
         ensures { OnOk result (out.new.items ≡ out.old.items ++ row_words place self.now) };
 }
@@ -60,7 +60,7 @@ pub(crate) fn table_size<T: Parts>(width: usize, rows: &[T]) -> Result<u64, Allo
     place_behind(behind, width, rows.len())
 }
 
-/// The rows, where what they refer to is from a place on.
+/// The rows, where what they refer to begins at a place.
 fn write_rows<T: Row>(out: &mut Vec<u64>, first: u64, rows: &[T]) -> Result<(), AllocError>
     ensures { OnOk result (out.new.items ≡ out.old.items ++ rows_from T.row_words T.behind first rows.now) }
 {
@@ -73,7 +73,7 @@ fn write_rows<T: Row>(out: &mut Vec<u64>, first: u64, rows: &[T]) -> Result<(), 
     Ok(())
 }
 
-/// What the rows refer to, from a place on.
+/// What the rows refer to, which begins at a place.
 pub(crate) fn write_all_parts<T: Parts>(
     alloc: Global,
     out: &mut Vec<u64>,

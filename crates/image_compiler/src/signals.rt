@@ -103,7 +103,7 @@ fn write_parent(out: &mut Vec<u64>, place: u64, parent: &Option<Parent>) -> Resu
     }
 }
 
-/// The row of a signal, where what it refers to and its parent's ranges are from two places on.
+/// The row of a signal, where what it refers to begins at one place and its parent's ranges at another.
 fn write_signal(
     out: &mut Vec<u64>,
     place: u64,

@@ -50,7 +50,7 @@ abbrev pub put_all_before : {A : Type 0} → List A → Option (List A × List T
 put_all_before xs None = None
 put_all_before xs (Some found) = Some (xs ++ found.0, found.1)
 
--- a part where the closing sign is not, and the later ones behind it; a part takes a token at least
+-- a part, where the closing sign is not next, and the later ones behind it; a part takes a token at least
 abbrev pub until_part : {A : Type 0} → Form (List A) → List Token → Option (A × List Token) → Option (List A × List Token)
 until_part later tokens None = None
 until_part later tokens (Some found) =

@@ -1,4 +1,4 @@
-//! The repeated parts of statements: what is one after another up to a closing sign.
+//! The repeated parts of statements: what follows one after another up to a closing sign.
 
 ghost use Rattle.std.specs.Prelude.{◌≡◌, ℕ, List, Option};
 ghost use Rattle.sig_text.specs.declared.token.Token.{Token};

@@ -192,6 +192,6 @@ pub is_database : Lacks (Any (Parses generated_text)) [] → ((n : ℕ) → IsTr
 is_database none tree valid = record {
   statements = statements;
   are_statements = record { tokens = tokens_of 0 (file_pieces 0 message_count); are_tokens = generated_tokens; all = file_parses generated_text 0 0 message_count (omega arith) none generated_texts };
-  build_database = gathers (tree 4);
+  gathers = gathers (tree 4);
   valid = valid;
 }

@@ -76,8 +76,8 @@ fn push_line(out: &mut Vec<u8>, i: u32, x: u64) -> Result<(), AllocError>
     push_body(out, x)
 }
 
-/// Appends the lines of so many frames from frame `first` on, before which the generator is at `x`, and answers where
-/// it is behind them: the seed is before frame 0.
+/// Appends the lines of so many frames from frame `first` on, before which the generator's number is `x`, and answers
+/// its number behind them; before frame 0 it is the seed.
 pub fn push_frames(out: &mut Vec<u8>, first: u32, count: u32, x: u64) -> Result<u64, AllocError>
     requires { first + count < 2 ^ 32 }
     ensures lines { (seed : ℕ) → x ≡ number_at seed first →

@@ -4,7 +4,7 @@ use Rattle.multiplex_tree.specs.declared.mark.Parent.{Parent}
 use Rattle.multiplex_tree.specs.Activity.{parent_at}
 use Rattle.multiplex_tree.specs.Chain.{signals_above, IsShallow}
 
--- the parents of n signals: each is one of these signals, and no more are above a signal than may
+-- the parents of n signals: each is one of these signals, and no more are above a signal than are allowed
 pub record IsTreeOver (n : ℕ) (parents : List (Option Parent)) : Type 0 where
   pub number : length parents ≡ n
   pub within : (i : ℕ) (p : Parent) → parent_at parents i ≡ Some p → p.signal < n

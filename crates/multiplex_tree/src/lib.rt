@@ -1,6 +1,6 @@
 //! Which signals of a message are active: extended multiplexing as the DBC format means it.
 //!
-//! A signal's mark says whether it selects others, a multiplexor, and in which group of values it is;
+//! A signal's mark says whether it selects others, a multiplexor, and to which group of values it belongs;
 //! links (`SG_MUL_VAL_`) name a parent with ranges. A reader of databases hands both to `resolve`; a decoder
 //! asks `Tree::active`, or goes from parent to parent by the laws of `laws`. `bench_model` keeps the tree with
 //! each message, and the crates above take `List` from here, a vector that contracts see as a list. The crate

@@ -20,7 +20,7 @@ pub record MemoryLibrary : Type 0 where
   pub more_faults : ℕ
   pub strays : ℕ
 
--- the names and the bytes, which it tells
+-- the names and the bytes, which it shows
 abbrev pub known_files : MemoryLibrary → Option (List (List ℕ × List ℕ))
 known_files l = Some (entries_of l.files)
 

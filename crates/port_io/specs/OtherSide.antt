@@ -2,14 +2,14 @@
 -- shows there the link's other end and whether the link was closed; what is alone shows nothing.
 use Rattle.std.specs.Prelude.{ℕ, Bool, false, List, Option, None}
 
--- what a source tells: the bytes left and taken (where known), its count of faults, whether a read has said the end
+-- what a source shows: the bytes left and taken (where known), its count of faults, whether a read has said the end
 pub record SourceState : Type 0 where
   pub left : Option (List ℕ)
   pub taken : Option (List ℕ)
   pub read_faults : ℕ
   pub ended : Bool
 
--- what a sink tells: the bytes written (where known) and its count of faults
+-- what a sink shows: the bytes written (where known) and its count of faults
 pub record SinkState : Type 0 where
   pub written : Option (List ℕ)
   pub write_faults : ℕ

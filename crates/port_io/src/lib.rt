@@ -4,13 +4,14 @@
 //!
 //! Each trait says which bytes a call moved and counts the calls that failed, so that what a layer
 //! above answers can be traced to the outside: a call answers `Failed` only where its object's
-//! count rose. Objects in memory tell their bytes, and fail exactly at the calls that their maker
+//! count rose. Objects in memory show their bytes, and fail exactly at the calls that their maker
 //! lists, for names that are missing, and where no room is left; files and streams of the system
-//! tell none.
+//! show none.
 //!
-//! The main theorem: `read_whole` answers Ok, where the library tells its files, with the named
-//! file's bytes and no others, `Open` and `Read` only where the library's own count of such faults rose, and `Long` exactly where more
-//! than the limit was taken; out of memory alone is free.
+//! The main theorem: `read_whole` answers Ok, where the library shows its files, with the named
+//! file's bytes and no others, `Open` and `Read` only where the library's own count of such faults
+//! rose, and `Long` exactly where more than the limit was taken; out of memory alone may come at
+//! any time.
 //!
 //! The member `other` of sources and sinks is for the two ends of a connection, which are to come.
 #![tactic(auto)]

@@ -12,12 +12,12 @@ use crate::{Failed, Source};
 pub trait Library {
     type Log: Source;
 
-    /// The names of the files and their bytes, or `None` where the library does not tell. No call
-    /// changes them.
+    /// The names of the files and their bytes, or `None` where the library does not show them.
+    /// No call changes them.
     ghost files: { Self → Option (List (List ℕ × List ℕ)) };
 
     /// The bytes of the begun file that `more` has not given yet, or `None` where the library does
-    /// not tell.
+    /// not show them.
     ghost left: { Self → Option (List ℕ) };
 
     /// Whether a file is begun.

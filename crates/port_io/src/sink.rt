@@ -8,7 +8,7 @@ use crate::Failed;
 
 /// A sink of bytes, written in order.
 pub trait Sink {
-    /// The bytes written so far, or `None` where the sink does not tell.
+    /// The bytes written so far, or `None` where the sink does not show them.
     ghost written: { Self → Option (List ℕ) };
 
     /// How many writes have failed. At `2^64 - 1` the count stays as it is.

@@ -14,7 +14,7 @@ pub struct Failed;
 
 /// A source of bytes, read in order from the first to the last.
 pub trait Source {
-    /// The bytes that reads have not given yet, or `None` where the source does not tell.
+    /// The bytes that reads have not given yet, or `None` where the source does not show them.
     ghost left: { Self → Option (List ℕ) };
 
     /// The bytes that reads have given, in order. They are known exactly where those left are.

@@ -71,7 +71,7 @@ pub record LaneKnows (m : Machine) (made : ℕ) (v : LaneView) : Type 0 where
   pub held_is :
       (u : Use) → v.held ≡ Some u → (epoch : ℕ) × ((region : ℕ) × (v.state ≡ Holding epoch u.version region))
 
--- the loader's seat shows what the machine knows of its images and its regions; what it has written is at
+-- the loader's seat shows what the machine has as its images and its regions; what it has written is at
 -- the head of the region being written, and the lanes that were joined fit the images, too
 pub record LoaderKnows (m : Machine) (made : ℕ) (v : LoaderView) : Type 0 where
   pub made_is : v.made ≡ made

@@ -1,5 +1,5 @@
 //! What the seats of a store know, each of its own steps. No value of these types but `About` and `Shape` is
-//! made: they are in contracts alone.
+//! made: they occur in contracts alone.
 
 use atomic_table::{Seat, Table, TableRule};
 use epoch_core::LaneState;
@@ -78,7 +78,7 @@ pub struct View {
     pub lane: LaneView,
 }
 
-/// What the rule of a store knows: its numbers, and the first image.
+/// What the rule of a store is given: its numbers, and the first image.
 #[derive(Drop)]
 pub struct About {
     pub shape: Shape,

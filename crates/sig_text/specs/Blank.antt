@@ -39,7 +39,7 @@ pub data IsBlankText (text : List ℕ) (comments : Bool) (from to : ℕ) : Type 
       (to < length text → slice_index text to ≡ line_feed) → IsBlankText text comments from to
   block_comment : IsTrue comments → IsBlockComment (slice_range text from to) → IsBlankText text comments from to
 
--- a blank is from one place to another
+-- a blank reaches from one place to another
 pub record IsBlank (text : List ℕ) (comments : Bool) (from to : ℕ) : Type 0 where
   pub ordered : from < to
   pub within : to ≤ length text

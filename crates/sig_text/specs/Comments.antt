@@ -37,8 +37,8 @@ BeginsComment text Absent = (¬ OpensLineComment text) × (¬ OpensBlockComment 
 BeginsComment text (Closed len) = BeginsLineComment text len ⊎ BeginsBlockComment text len
 BeginsComment text Open = BeginsOpenComment text
 
--- The first n bytes are white space, or, at the head of the whole text, the byte order mark; n is 0 where no
--- prefix is.
+-- The first n bytes are white space, or, at the head of the whole text, the byte order mark; n is 0 where
+-- neither is there.
 pub record BeginsSpace (text : List ℕ) (is_head : Bool) (n : ℕ) : Type 0 where
   pub within : n ≤ length text
   pub lexeme : 0 < n → IsSpace (take n text) ⊎ (IsTrue is_head × IsByteOrderMark (take n text))

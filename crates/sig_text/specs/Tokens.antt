@@ -25,7 +25,7 @@ abbrev pub AreBlanks : List ℕ → Bool → ℕ → List ℕ → ℕ → Type 0
 AreBlanks text comments from [] to = from ≡ to
 AreBlanks text comments from (end ∷ ends) to = IsBlank text comments from end × AreBlanks text comments end ends to
 
--- only blanks are from one place to another
+-- only blanks lie between two places
 abbrev pub IsGap : List ℕ → Bool → ℕ → ℕ → Type 0
 IsGap text comments from to = (ends : List ℕ) × AreBlanks text comments from ends to
 

@@ -21,7 +21,7 @@ fn words(rt: HostRuntime) -> Result<Vec<String>, AllocError> {
     }
 }
 
-/// Appends the line of out of memory, as far as the error output takes it, and answers that status.
+/// Appends the line `memory`, as far as the error output takes it, and answers that status.
 fn out_of_memory(err: &mut ErrSink) -> Status {
     match write_piece(err, b"memory\n") {
         Ok(()) | Err(_) => Status::Memory,

@@ -24,7 +24,7 @@ is_go_alone (word ∷ more ∷ words) = false
 abbrev pub has_feed : List ℕ → Bool
 has_feed line = list_any (λ b. b == 10) line
 
--- Whether a line is that one: it is with its line feed, or the last line counts without. A carriage return at its
+-- Whether a line is that one: it ends in its line feed, or is the last line. A carriage return at its
 -- end is dropped.
 abbrev pub is_go : Bool → List ℕ → Bool
 is_go last line = (has_feed line || last) && is_go_alone (line_words (without_feed line))

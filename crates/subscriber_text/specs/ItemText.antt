@@ -30,7 +30,7 @@ hex_bytes bytes = flat_map (hex_digits 2) bytes
 abbrev pub key_text : Key → List ℕ
 key_text key = if key.extended then hex_digits 8 key.id else hex_digits 3 key.id
 
--- a byte inside quotation marks: `"` and the backslash are behind a backslash, and a control character
+-- a byte inside quotation marks: `"` and the backslash are written behind a backslash, and a control character
 -- is written as a backslash, `x` and its two digits
 abbrev pub quoted_byte : ℕ → List ℕ
 quoted_byte b =

@@ -11,7 +11,7 @@ use Rattle.subscriber_text.specs.declared.message_parts.RecordPlace.{RecordPlace
 use Rattle.subscriber_text.specs.declared.message_parts.WantedSignals.{WantedSignals}
 use Rattle.subscriber_text.specs.declared.message_parts.WantedSignals.TheVariants.{Nothing, Named, All}
 
--- the record that is there and says this, and that of a message of this name with these signals
+-- the record at this place that says this, and that of a message of this name with these signals
 abbrev pub record_at : RecordPlace → Body → Reading
 record_at place says =
     record { bus = place.bus; number = place.number; version = place.version; micros = place.micros; body = says }

@@ -50,7 +50,7 @@ bus_lines bus before (line ∷ lines) =
 abbrev pub part_of : List ℕ → List ℕ → List ℕ
 part_of text bus = bus_lines bus false (fed_lines text)
 
--- the lines, behind a line that is in the parts of these buses, each are in the part of a wanted bus
+-- each of the lines, behind a line that is in the parts of these buses, is in the part of a wanted bus
 unfoldable pub AreOfWanted : WantList → (ℕ → Bool) → List (List ℕ) → Type 0
 AreOfWanted w before [] = Unit {0}
 AreOfWanted w before (line ∷ lines) =

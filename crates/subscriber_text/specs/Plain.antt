@@ -1,4 +1,4 @@
--- Which bytes are as they are inside quotation marks.
+-- Which bytes are written unchanged inside quotation marks.
 use Rattle.std.specs.Prelude.{ℕ, ◌==◌, ◌||◌, Bool, not, nat_lt, List, flat_map}
 use Rattle.byte_forms.specs.Bytes.{space}
 use Rattle.subscriber_text.specs.Bytes.{quote, backslash, delete}

@@ -27,11 +27,11 @@ wants_view wants = map want_view wants
 abbrev pub name_of : Option (Bor (List ℕ)) → Option (List ℕ)
 name_of name = option_map (λ bytes. bytes.now) name
 
--- names in the order of their bytes; no name is first
+-- names in the order of their bytes; none comes before every name
 abbrev pub name_cmp : Option (List ℕ) → Option (List ℕ) → Ordering
 name_cmp a b = option_cmp (slice_cmp nat_cmp) a b
 
--- how a want compares with a bus and a message, and to a want: by the bus, then the message, then the signal
+-- how a want compares with a bus and a message, and with another want: by the bus, then the message, then the signal
 abbrev pub message_key : Want → ℕ × Option (List ℕ)
 message_key want = (want.bus, want.message)
 

@@ -19,7 +19,7 @@ pub(crate) fn append_hex(out: &mut Vec<u8>, bytes: &[u8]) -> Result<(), AllocErr
     Ok(())
 }
 
-/// Whether a byte is as it is inside quotation marks.
+/// Whether a byte is written unchanged inside quotation marks.
 fn is_plain(byte: u8) -> bool
     ensures { result ≡ is_plain byte }
 {

@@ -7,7 +7,7 @@ use std::alloc::{AllocError, Global};
 use std::cmp::Ordering;
 
 /// A want: of a bus, of the messages of a name, or of a signal of them. Wants are in order by their bus,
-/// then their message, then their signal; no name is before every name.
+/// then their message, then their signal; none comes before every name.
 #[derive(Debug, PartialEq, Eq, PartialOrd, Ord, Drop)]
 pub(crate) struct NamedWant {
     /// The bus's place.

@@ -1,6 +1,6 @@
 //! What readers of statements over tokens share: quoted words and signs, names, numbers, strings, and runs of forms.
 //!
-//! It is between `sig_text`, whose tokens it reads, and the readers of whole databases, `dbc_grammar` and
+//! It lies between `sig_text`, whose tokens it reads, and the readers of whole databases, `dbc_grammar` and
 //! `ldf_grammar`. A reader is a few of these functions joined by `?`, each of which takes the front of a list of
 //! tokens and gives the rest; what one finds is an equation with a function on lists (`specs/`). Numbers come from
 //! `byte_forms`, decimals from `exact_scale`.
