@@ -43,6 +43,3 @@ pub use reading::{Ask, Body, CutCause, Item, Missed, Plain, Reading, SignalValue
 pub use replace::Change;
 pub use text::Text;
 pub use valid::Valid;
-
-#[cfg(test)]
-mod tests;

@@ -22,6 +22,3 @@ pub use laws::{a_decimal_text_denotes_one, decimal_is_unique};
 pub use printing::Exact;
 pub use reading::{Decimal, DecimalFault};
 pub use scaling::{GREATEST_RAW, LEAST_RAW_SIZE, Scale, Wide};
-
-#[cfg(test)]
-mod tests;

@@ -18,6 +18,3 @@ mod texts;
 
 pub use compiling::compile;
 pub use refused::CompileRefused;
-
-#[cfg(test)]
-mod tests;

@@ -15,4 +15,3 @@ pub mod ValueLaws
 pub mod DecodeLaws
 pub mod RunLaws
 pub mod WholeLaws
-pub mod ExampleLaws

@@ -38,6 +38,3 @@ pub use values::ValueBuffer;
 pub use visit::Visit;
 pub use walking::walk;
 pub use words::Words;
-
-#[cfg(test)]
-mod tests;

@@ -18,8 +18,6 @@ mod laws;
 mod list;
 mod mark;
 mod parents;
-#[cfg(test)]
-mod tests;
 mod tree;
 
 pub use fault::{MuxFault, MuxWhy};

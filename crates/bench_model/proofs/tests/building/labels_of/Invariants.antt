@@ -1,6 +1,0 @@
-use Rattle.std.proofs.Common.{All}
-use Rattle.bench_model.specs.Limits.{IsLabel}
-use Rattle.bench_model.proofs.tests.building.labels_of.Given as goal
-
-abbrev pub invariant-loop-raw : goal.invariant-loop-raw
-invariant-loop-raw l = All IsLabel l.labels.items

@@ -1,6 +1,0 @@
-use Rattle.std.proofs.Common.{All}
-use Rattle.bench_model.specs.Limits.{IsMade}
-use Rattle.bench_model.proofs.tests.building.messages_of.Given as goal
-
-abbrev pub invariant-loop-row : goal.invariant-loop-row
-invariant-loop-row l = All IsMade l.messages.items

@@ -1,8 +1,0 @@
-use Rattle.image_words.proofs.ExampleLaws.{vector_fits, vector_signal}
-use Rattle.image_words.proofs.tests.a_raw_value_past_the_bytes_is_absent.Goals as goal
-
-pub raw_of-requires-clause-some : goal.raw_of-requires-clause-some
-raw_of-requires-clause-some g c = vector_fits c.in_ok-words.words.items c.in_ok-words.ensures
-
-pub raw_of-requires-clause-signal : goal.raw_of-requires-clause-signal
-raw_of-requires-clause-signal g c = vector_signal c.in_ok-words.words.items c.in_ok-words.ensures
