@@ -28,6 +28,3 @@ pub use lines::{Lines, NoLines};
 pub use log_line::{LogLine, Span, interface, line};
 pub use payload::Payload;
 pub use place::{LinesRefused, Routed};
-
-#[cfg(test)]
-mod tests;

@@ -21,6 +21,3 @@ pub use laws::{a_session_is_open_since_its_last_opening, an_open_session_is_of_t
 pub use listener::Listener;
 pub use out::TpOut;
 pub use read::pgn_of;
-
-#[cfg(test)]
-mod tests;

@@ -42,6 +42,3 @@ pub use real_streams::{ErrSink, OutSink};
 pub use sink::Sink;
 pub use source::{Failed, Source};
 pub use whole::{WholeRefused, read_whole};
-
-#[cfg(test)]
-mod tests;

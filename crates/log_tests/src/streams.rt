@@ -2,7 +2,10 @@
 //! go to another thread.
 ghost use Rattle.std.specs.Prelude.{◌≤◌};
 
-use crate::*;
+use port_io::{
+    ErrSink, Failed, FileLibrary, FileSource, Library, MemFile, MemLibrary, MemLog, MemSink,
+    MemSource, OutSink, Source, WholeRefused, read_whole, write_piece,
+};
 use std::alloc::{AllocError, Global};
 use std::fs;
 use std::test::Fail;

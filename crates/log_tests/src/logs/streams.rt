@@ -4,7 +4,7 @@ ghost use Rattle.std.specs.Prelude.{◌≤◌};
 use super::cases::Want;
 use super::says;
 use super::table::{Longest, Table, log_ending};
-use crate::{Lines, LinesRefused};
+use candump_log::{Lines, LinesRefused};
 use port_io::{MemSource, Source};
 use std::alloc::Global;
 use std::process::Abort;

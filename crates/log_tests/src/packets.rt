@@ -1,7 +1,7 @@
 //! Runs of frames with what each brings, worked out by hand from the protocol's table.
 
-use crate::{Listener, TpOut, pgn_of};
 use bench_model::CutCause;
+use j1939_tp::{Listener, TpOut, pgn_of};
 use std::alloc::{AllocError, Global};
 use std::process::Abort;
 use std::test::Fail;

@@ -6,8 +6,8 @@ mod error_frames;
 mod streams;
 mod table;
 
-use crate::*;
 use bench_model::Text;
+use candump_log::{Lines, LinesRefused, LogLine, NoLines, Payload, Routed, Span, interface, line};
 use cases::{CLASSIC, Case, LENGTHS, REMOTE_AND_FD, STAMPS_AND_BLANKS, Want};
 use error_frames::ERROR_FRAMES;
 use port_io::{MemSource, Source};
