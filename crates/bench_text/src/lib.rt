@@ -15,6 +15,3 @@ mod refused;
 pub use buses::print_buses;
 pub use laws::{a_fault_leaves_a_prefix_written, the_text_of_a_bench_goes_on};
 pub use refused::BusesRefused;
-
-#[cfg(test)]
-mod tests;

@@ -24,6 +24,3 @@ pub use image::BenchImage;
 pub use laws::{the_text_goes_on, uses_of_a_buffer_are_one};
 pub use printing::{Printed, print_bus};
 pub use refused::BusRefused;
-
-#[cfg(test)]
-mod tests;

@@ -21,6 +21,3 @@ pub use lines::next_line;
 pub use numerals::{Radix, number_up_to};
 pub use pieces::{after_literal, field_before};
 pub use runs::{is_all, run};
-
-#[cfg(test)]
-mod tests;

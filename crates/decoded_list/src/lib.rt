@@ -16,6 +16,3 @@ mod laws;
 
 pub use decoder::{BusDecoder, Records, listen, stamp_of};
 pub use laws::{a_record_is_of_a_line, records_are_numbered_by_their_places, the_list_goes_on};
-
-#[cfg(test)]
-mod tests;

@@ -37,6 +37,3 @@ pub use message_parts::{RecordPlace, WantedSignals, append_message, append_wante
 pub use printing::{header, print};
 pub use signal::SignalParts;
 pub use wants::Wants;
-
-#[cfg(test)]
-mod tests;

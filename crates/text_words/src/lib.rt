@@ -16,6 +16,3 @@ mod words;
 pub use lines::{next_text_line, without_return};
 pub use spaced::append_word;
 pub use words::next_word;
-
-#[cfg(test)]
-mod tests;

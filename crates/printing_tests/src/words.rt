@@ -1,9 +1,9 @@
 //! The worked forms of lines and words.
 
-use crate::{next_text_line, next_word};
 use std::alloc::Global;
 use std::process::Abort;
 use std::test::Fail;
+use text_words::{next_text_line, next_word};
 
 /// Appends the words of a line, each in `<` and `>`, and `|`.
 fn append_words(out: &mut Vec<u8>, line: &[u8]) -> Result<(), Fail> {

@@ -1,6 +1,12 @@
 //! Wants, and what they cover.
 
-use super::*;
+use super::{all_wants, assert_text, buses, lines, message, one, record, signal, wants_of};
+use bench_model::{Body, Exact, Item, Missed, Reading, SignalValue, Text};
+use multiplex_tree::List;
+use std::alloc::{AllocError, Global};
+use std::process::Abort;
+use std::test::Fail;
+use subscriber_text::{Wants, WantsFault};
 
 /// What reading a text of wants answers: its format, or its fault.
 fn answer(alloc: Global, text: &[u8]) -> Result<Result<u32, WantsFault>, AllocError> {

@@ -1,6 +1,13 @@
 //! The text of a message's record, part by part.
 
-use super::*;
+use super::wants_of;
+use bench_model::Exact;
+use std::alloc::{AllocError, Global};
+use std::process::Abort;
+use std::test::Fail;
+use subscriber_text::{
+    RecordPlace, SignalParts, WantedSignals, Wants, append_message, append_wanted_signal,
+};
 
 const PLACE: RecordPlace = RecordPlace {
     bus: 0,

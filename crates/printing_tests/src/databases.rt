@@ -1,7 +1,8 @@
-//! The databases of the worked logs.
-ghost use Rattle.std.specs.Prelude.{◌≡◌, All, IfOk, length};
+//! The databases of the worked logs, made from rows.
+ghost use Rattle.std.specs.Prelude.{◌≡◌, ◌≤◌, All, IfOk, length};
 ghost use Rattle.exact_scale.specs.Limits.{IsScale};
 ghost use Rattle.multiplex_tree.specs.Trees.{IsTreeOver};
+ghost use Rattle.bench_model.specs.Check.{IsValid};
 ghost use Rattle.bench_model.specs.Limits.{IsMade, IsEntry, IsCoding};
 ghost use Rattle.bench_model.specs.ValidBench.{IsValidBus};
 
@@ -31,6 +32,7 @@ pub(crate) enum CodingRow {
 pub(crate) struct MessageRow {
     pub name: &'static str,
     pub key: Key,
+    pub length: u32,
     pub signal: &'static str,
     pub start: u32,
     pub size: u32,
@@ -43,6 +45,7 @@ pub(crate) const SPEED: MessageRow = MessageRow {
         extended: false,
         id: 256,
     },
+    length: 8,
     signal: "Speed",
     start: 0,
     size: 16,
@@ -70,6 +73,7 @@ pub(crate) const STATUS: MessageRow = MessageRow {
         extended: false,
         id: 16,
     },
+    length: 8,
     signal: "Temp",
     start: 0,
     size: 8,
@@ -88,6 +92,7 @@ pub(crate) const ENGINE_SPEED: MessageRow = MessageRow {
         extended: true,
         id: 0x0CF0_04FE,
     },
+    length: 8,
     signal: "EngSpeed",
     start: 24,
     size: 16,
@@ -104,6 +109,7 @@ pub(crate) const LAMPS: MessageRow = MessageRow {
         extended: true,
         id: 0x18FE_CA00,
     },
+    length: 10,
     signal: "Last",
     start: 72,
     size: 8,
@@ -214,10 +220,18 @@ fn message_of(alloc: Global, row: &MessageRow) -> Result<Message, Fail>
     Ok(Message {
         name,
         key: row.key,
-        length: 8,
+        length: row.length,
         signals: List::of(vec![in alloc; signal]?),
         tree,
     })
+}
+
+/// A message alone.
+fn one_message(alloc: Global, row: &MessageRow) -> Result<Vec<Message>, Fail>
+    ensures { IfOk result (λ messages. All IsMade messages.items) }
+{
+    let message = message_of(alloc, row)?;
+    Ok(vec![in alloc; message]?)
 }
 
 /// No message, or one.
@@ -225,12 +239,34 @@ fn messages_of(alloc: Global, row: Option<&MessageRow>) -> Result<Vec<Message>, 
     ensures { IfOk result (λ messages. All IsMade messages.items) }
 {
     match row {
-        Some(row) => {
-            let message = message_of(alloc, row)?;
-            Ok(vec![in alloc; message]?)
-        }
+        Some(row) => one_message(alloc, row),
         None => Ok(Vec::new(alloc)),
     }
+}
+
+fn database_of(alloc: Global, row: Option<&MessageRow>) -> Result<Database, Fail>
+    ensures { IfOk result IsValid }
+{
+    let messages = messages_of(alloc, row)?;
+    let valid = check(
+        alloc,
+        Database {
+            messages: List::of(messages),
+        },
+    )?;
+    Ok(valid.into_database())
+}
+
+/// A name of 1 to 32 bytes.
+fn name_of(alloc: Global, name: &[u8]) -> Result<Text, Fail>
+    ensures same { IfOk result (λ text. text ≡ name.now) }
+    ensures some_bytes { IfOk result (λ text. 1 ≤ length text) }
+    ensures bytes { IfOk result (λ text. length text ≤ 32) }
+{
+    if name.is_empty() || name.len() > 32 {
+        return Err("a name of 1 to 32 bytes")?;
+    }
+    Ok(Text::of(alloc, name)?)
 }
 
 /// A bus whose database has this message, where there is one.
@@ -243,14 +279,11 @@ pub(crate) fn bus_of(
     ensures name { IfOk result (λ bus. bus.name ≡ name.now) }
     ensures valid { IfOk result IsValidBus }
 {
-    if name.is_empty() || name.len() > 32 {
-        return Err("a name of 1 to 32 bytes")?;
-    }
-    let messages = List::of(messages_of(alloc, row)?);
-    let valid = check(alloc, Database { messages })?;
+    let database = database_of(alloc, row)?;
+    let name = name_of(alloc, name)?;
     Ok(Bus {
-        name: Text::of(alloc, name)?,
+        name,
         kind,
-        database: valid.into_database(),
+        database,
     })
 }

@@ -1,36 +1,18 @@
-//! What no clause says: that calls succeed with ample memory, and that the worked logs have their texts, read and
+//! What no clause says: that calls succeed with ample memory, and that worked logs have their texts, read and
 //! written in pieces of any size, and as far as reads and writes succeed.
-ghost use Rattle.std.specs.Prelude.{◌≡◌, ◌≤◌, ◌<◌, false, length, IfOk};
+ghost use Rattle.std.specs.Prelude.{◌≡◌, ◌<◌, false, length, IfOk};
 
-mod cases;
-mod databases;
-
-use crate::*;
-use bench_model::*;
-use cases::*;
-use databases::bus_of;
+use crate::cases::*;
+use crate::databases::bus_of;
+use crate::pieces::{Pieces, WHOLE, log_of, sink_of};
+use bench_model::{Bench, Text};
+use bus_text::{BenchImage, BusRefused, Printed, TextBuffer, print_bus};
 use multiplex_tree::List;
 use port_io::{MemSink, MemSource, Source};
 use std::alloc::Global;
 use std::process::Abort;
 use std::test::Fail;
 use subscriber_text::Wants;
-
-/// How a log is read and its text written: how many bytes at a time, and which calls fail.
-#[derive(Clone, Copy)]
-struct Pieces {
-    read: usize,
-    failing_reads: &'static [u64],
-    write: usize,
-    failing_writes: &'static [u64],
-}
-
-const WHOLE: Pieces = Pieces {
-    read: 65_536,
-    failing_reads: &[],
-    write: 1_000_000,
-    failing_writes: &[],
-};
 
 /// How many words an image may take.
 const ROOM: usize = 1_000;
@@ -57,29 +39,6 @@ fn image_of_two(alloc: Global, first: &Case, second: &Case) -> Result<BenchImage
     Ok(BenchImage::compile(alloc, Bench { buses }, ROOM)?)
 }
 
-/// A log in memory.
-fn log_of(alloc: Global, log: &[u8], pieces: Pieces) -> Result<MemSource, Fail>
-    requires { 1 ≤ pieces.read }
-    ensures { IfOk result (λ source. ⟦<MemSource as Source>⟧.ended source ≡ false) }
-{
-    Ok(MemSource::new(
-        Vec::from_slice(alloc, log)?,
-        pieces.read,
-        Vec::from_slice(alloc, pieces.failing_reads)?,
-    ))
-}
-
-/// A sink of this room that is written in such pieces.
-fn sink_of(alloc: Global, pieces: Pieces, room: usize) -> Result<MemSink, Fail>
-    requires { 1 ≤ pieces.write }
-{
-    Ok(MemSink::new(
-        vec![in alloc; 0; room]?,
-        pieces.write,
-        Vec::from_slice(alloc, pieces.failing_writes)?,
-    ))
-}
-
 /// Wants that cover all of these buses.
 fn wants_of(alloc: Global, names: &[&[u8]]) -> Result<Wants, Fail> {
     let mut buses = Vec::new(alloc);
@@ -97,7 +56,35 @@ struct Outcome {
     log: MemSource,
 }
 
-/// Prints a log of the bus of a case, whose text starts anew in an empty buffer.
+/// Prints a log of the only bus of a bench, whose text starts anew in an empty buffer.
+fn print_only(
+    alloc: Global,
+    image: &mut BenchImage,
+    wants: &Wants,
+    log: MemSource,
+    sink: &mut MemSink,
+) -> Result<Printed<MemSource>, Fail>
+    requires bus { length image.old.buses ≡ 1 }
+    requires log { ⟦<MemSource as Source>⟧.ended log ≡ false }
+{
+    let mut buffer = TextBuffer::new(alloc)?;
+    let Printed { log, end } = print_bus(alloc, image, 0, wants, log, &mut buffer, sink);
+    let end = flushed(end, &mut buffer, sink);
+    Ok(Printed { log, end })
+}
+
+/// How a print ends whose last text is written, too.
+fn flushed(
+    end: Result<(), BusRefused>,
+    buffer: &mut TextBuffer,
+    sink: &mut MemSink,
+) -> Result<(), BusRefused> {
+    end?;
+    buffer.flush(sink)?;
+    Ok(())
+}
+
+/// Prints a log of the bus of a case.
 fn print_into(
     alloc: Global,
     case: &Case,
@@ -106,25 +93,9 @@ fn print_into(
 ) -> Result<Printed<MemSource>, Fail>
     requires { ⟦<MemSource as Source>⟧.ended log ≡ false }
 {
-    let mut image = image_of(alloc, case)?;
     let wants = wants_of(alloc, &[case.bus])?;
-    let mut buffer = TextBuffer::new(alloc)?;
-    let printed = print_bus(alloc, &mut image, 0, &wants, log, &mut buffer, sink);
-    if printed.end.is_ok() {
-        return Ok(Printed {
-            log: printed.log,
-            end: flushed(&mut buffer, sink),
-        });
-    }
-    Ok(printed)
-}
-
-/// How the end of a print ends.
-fn flushed(buffer: &mut TextBuffer, sink: &mut MemSink) -> Result<(), BusRefused> {
-    match buffer.flush(sink) {
-        Ok(()) => Ok(()),
-        Err(_) => Err(BusRefused::WriteFault),
-    }
+    let mut image = image_of(alloc, case)?;
+    print_only(alloc, &mut image, &wants, log, sink)
 }
 
 /// What a print of a log left.
@@ -134,12 +105,10 @@ fn print_log(
     log: &[u8],
     pieces: Pieces,
     room: usize,
-) -> Result<Outcome, Fail>
-    requires read { 1 ≤ pieces.read }
-    requires write { 1 ≤ pieces.write }
-{
+) -> Result<Outcome, Fail> {
     let mut sink = sink_of(alloc, pieces, room)?;
-    let Printed { log, end } = print_into(alloc, case, log_of(alloc, log, pieces)?, &mut sink)?;
+    let log = log_of(alloc, log, pieces)?;
+    let Printed { log, end } = print_into(alloc, case, log, &mut sink)?;
     Ok(Outcome { end, sink, log })
 }
 
@@ -156,10 +125,7 @@ fn assert_text(
     case: &Case,
     read: usize,
     write: usize,
-) -> Result<(), Fail>
-    requires read { 1 ≤ read }
-    requires write { 1 ≤ write }
-{
+) -> Result<(), Fail> {
     let pieces = Pieces {
         read,
         write,
@@ -237,9 +203,7 @@ fn assert_stop(
     read: usize,
     failing_reads: &'static [u64],
     lines: usize,
-) -> Result<(), Fail>
-    requires { 1 ≤ read }
-{
+) -> Result<(), Fail> {
     let pieces = Pieces {
         read,
         failing_reads,
@@ -266,6 +230,14 @@ fn a_read_that_fails_within_a_line_leaves_that_line_out(rt: HostRuntime) -> Resu
     assert_stop(&rt, rt.alloc(), 30, &[4], 5)
 }
 
+/// What a log of at most 256 bytes still gives, in one read.
+fn read_all(alloc: Global, mut log: MemSource) -> Result<Vec<u8>, Fail> {
+    let mut rest = vec![in alloc; 0; 256]?;
+    let count = log.read(&mut rest)?;
+    rest.truncate(count);
+    Ok(rest)
+}
+
 /// A print of the frames ends so, and the log still has this to give.
 fn assert_left(
     rt: &impl Abort,
@@ -273,16 +245,14 @@ fn assert_left(
     pieces: Pieces,
     end: Result<(), BusRefused>,
     left: &[u8],
-) -> Result<(), Fail>
-    requires read { 1 ≤ pieces.read }
-    requires write { 1 ≤ pieces.write }
-{
-    let mut outcome = print_log(alloc, &FRAMES, FRAMES.log.as_bytes(), pieces, 4_096)?;
-    assert_eq!(rt; outcome.end, end);
-    let mut rest = vec![in alloc; 0; 256]?;
-    let count = outcome.log.read(&mut rest)?;
-    rest.truncate(count);
-    assert_eq!(rt; rest.as_slice(), left);
+) -> Result<(), Fail> {
+    let Outcome {
+        end: ended,
+        log,
+        ..
+    } = print_log(alloc, &FRAMES, FRAMES.log.as_bytes(), pieces, 4_096)?;
+    assert_eq!(rt; ended, end);
+    assert_eq!(rt; read_all(alloc, log)?.as_slice(), left);
     Ok(())
 }
 

@@ -1,6 +1,7 @@
-use super::*;
+//! Lines, numbers, classes of bytes, literals and fields of worked texts.
+
+use byte_forms::{Class, Radix, after_literal, field_before, next_line, number_up_to, run};
 use std::process::Abort;
-use std::test::*;
 
 /// The next line is this one, and the rest is given.
 fn after_line<'a>(rt: &impl Abort, text: &'a [u8], line: &[u8]) -> &'a [u8] {

@@ -1,7 +1,13 @@
 //! The text of items, line by line.
 
-use super::*;
-use bench_model::CutCause;
+use super::{all_wants, assert_text, message, one, record, signal, wants_of};
+use bench_model::{Body, CutCause, Exact, Item, Key, Missed, SignalValue, Text};
+use multiplex_tree::List;
+use port_io::MemSink;
+use std::alloc::{AllocError, Global};
+use std::process::Abort;
+use std::test::Fail;
+use subscriber_text::{PrintRefused, Wants, WantsFault, header, print};
 
 const SHORT: Key = Key {
     extended: false,

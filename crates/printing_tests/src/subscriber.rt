@@ -1,10 +1,11 @@
-use super::*;
-use bench_model::{Body, Exact, Item, Key, Missed, Reading, SignalValue, Text};
+//! The wants of a subscriber, and the text of items under them.
+
+use bench_model::{Body, Exact, Item, Reading, SignalValue, Text};
 use multiplex_tree::List;
-use port_io::MemSink;
 use std::alloc::{AllocError, Global};
 use std::process::Abort;
-use std::test::*;
+use std::test::Fail;
+use subscriber_text::{Wants, append};
 
 mod before_go;
 mod items;

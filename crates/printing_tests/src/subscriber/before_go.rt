@@ -1,6 +1,10 @@
 //! What is before the line `GO`.
 
-use super::*;
+use super::lines;
+use std::alloc::{AllocError, Global};
+use std::process::Abort;
+use std::test::Fail;
+use subscriber_text::{Asking, wants_before_go};
 
 /// The first bytes of an input, whether it has ended, and what they say.
 const INPUTS: [(&[u8], bool, Asking); 17] = [
