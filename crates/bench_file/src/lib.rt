@@ -23,6 +23,3 @@ pub use laws::{limits_of_a_plan, one_plan_or_one_fault};
 pub use plan::{Plan, PlannedBus};
 pub use read::read_plan;
 pub use setting::Setting;
-
-#[cfg(test)]
-mod tests;

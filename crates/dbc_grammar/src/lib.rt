@@ -36,6 +36,3 @@ pub use read::read_dbc;
 pub use statement::{
     Heading, MessageForm, Note, Place, Says, Scaling, SignalForm, Statement, ValueText,
 };
-
-#[cfg(test)]
-mod tests;

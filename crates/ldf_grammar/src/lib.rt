@@ -33,6 +33,3 @@ pub use read::read_ldf;
 pub use statement::{
     Encoding, EncodingEntry, Frame, FrameSignal, Representation, SignalLine, Statement,
 };
-
-#[cfg(test)]
-mod tests;

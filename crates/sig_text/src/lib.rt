@@ -18,8 +18,6 @@ mod lexer;
 mod number;
 mod scan;
 mod string;
-#[cfg(test)]
-mod tests;
 mod token;
 
 pub use content::string_of;

@@ -27,6 +27,3 @@ pub use numbers::{
 };
 pub use pieces::{literal_at, number_at, string_at, token_text, word_at};
 pub use scaling::scale_of;
-
-#[cfg(test)]
-mod tests;

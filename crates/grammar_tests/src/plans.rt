@@ -1,6 +1,6 @@
 //! What the tables of the format say, row by row: plans, and the first faulty line of files that have none.
 
-use crate::{Plan, PlanFault, PlannedBus, read_plan};
+use bench_file::{Plan, PlanFault, PlannedBus, read_plan};
 use bench_model::Kind;
 use std::alloc::Global;
 use std::process::Abort;

@@ -1,7 +1,7 @@
 //! Texts and what they describe, worked out by hand from the format.
 
-use crate::{LdfFault, read_ldf};
 use bench_model::{CheckFault, CheckWhy, Coding, Entry, Message, Signal, Valid};
+use ldf_grammar::{LdfFault, read_ldf};
 use sig_text::{LexFault, tokens};
 use std::alloc::{AllocError, Global};
 use std::process::Abort;

@@ -1,6 +1,6 @@
 //! Whole files through `read_dbc`, and frames under what it reads.
 
-use super::*;
+use dbc_grammar::{DbcFault, read_dbc};
 
 mod faults;
 mod frames;

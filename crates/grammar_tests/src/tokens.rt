@@ -1,4 +1,4 @@
-use crate::{LexFault, Token, TokenKind, string_of, tokens};
+use sig_text::{LexFault, Token, TokenKind, string_of, tokens};
 use std::alloc::Global;
 use std::process::Abort;
 use std::test::Fail;

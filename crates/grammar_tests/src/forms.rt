@@ -1,8 +1,11 @@
 //! Each reader over one text.
 
-use super::*;
 use sig_text::tokens;
 use std::test::*;
+use token_forms::{
+    decimal_of, digits_at, literal_at, number_at, number_up_to_at, signed_at, string_at,
+    string_content, token_text, whole_at, whole_value, word_at,
+};
 
 #[test]
 fn forms_are_read_one_after_another(rt: HostRuntime) -> Result<(), Fail> {
