@@ -27,8 +27,6 @@ mod start;
 mod state;
 mod step;
 mod take;
-#[cfg(test)]
-mod tests;
 
 pub use lane::LaneState;
 pub use laws::{

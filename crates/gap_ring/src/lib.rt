@@ -41,6 +41,3 @@ pub use progress::Progress;
 pub use putter::Putter;
 pub use taker::Taker;
 pub use view::{Did, GapWords, Gaps, Putting, Taking, View};
-
-#[cfg(test)]
-mod tests;

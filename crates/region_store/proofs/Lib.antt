@@ -11,4 +11,3 @@ pub mod LookLaws
 pub mod FirstLaws
 pub mod WriteLaws
 pub mod PublishLaws
-pub mod TestLaws

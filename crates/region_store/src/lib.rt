@@ -24,8 +24,6 @@ mod publishing;
 mod shelf;
 mod steps;
 mod store;
-#[cfg(test)]
-mod tests;
 mod view;
 mod writing;
 

@@ -2,7 +2,7 @@
 
 ghost use Rattle.epoch_core.specs.Runs.{AreWithinLimits};
 
-use super::*;
+use epoch_core::{State, Step};
 use std::process::Abort;
 use std::test::Fail;
 

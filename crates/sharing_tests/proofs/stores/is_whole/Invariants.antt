@@ -1,6 +1,6 @@
 use Rattle.std.proofs.Common.{◌≡◌}
 use Rattle.region_store.specs.Ends.{use_of_pin}
-use Rattle.region_store.proofs.tests.is_whole.Given as goal
+use Rattle.sharing_tests.proofs.stores.is_whole.Given as goal
 
 -- the pin is of the same store, and its image of the same length
 abbrev pub invariant-loop-at : goal.invariant-loop-at

@@ -5,8 +5,8 @@ ghost use Rattle.region_store.specs.declared.lane.LaneSeat.{LaneSeat};
 ghost use Rattle.region_store.specs.Ends.{first_of, shape_of, IsLaneOf};
 ghost use Rattle.region_store.specs.LoaderEnd.{IsLoaderOf};
 
-use crate::{Holder, LaneSeat, LoaderSeat, Pinned, PublishRefused, Shelf, Store};
 use image_words::Words;
+use region_store::{Holder, LaneSeat, LoaderSeat, Pinned, PublishRefused, Shelf, Store};
 use std::alloc::{AllocError, Global};
 use std::process::Abort;
 use std::test::Fail;

@@ -5,10 +5,10 @@ ghost use Rattle.std.specs.Prelude.{◌≡◌, ◌<◌, ◌≤◌, ◌++◌, ℕ
 ghost use Rattle.region_store.specs.Ends.{first_of, shape_of, IsLaneOf};
 ghost use Rattle.region_store.specs.LoaderEnd.{IsLoaderOf};
 ghost use Rattle.region_store.specs.declared.lane.LaneSeat.{LaneSeat};
-ghost use Rattle.region_store.specs.declared.tests.TheConstants.{BENCH};
+ghost use Rattle.sharing_tests.specs.declared.stores.TheConstants.{BENCH};
 
 use super::{Answer, is_whole, publish, store_of};
-use crate::{Holder, LaneSeat, LoaderSeat, Store};
+use region_store::{Holder, LaneSeat, LoaderSeat, Store};
 use std::alloc::{AllocError, Global};
 use std::process::Abort;
 use std::sync::Wait;

@@ -5,8 +5,8 @@ ghost use Rattle.gap_ring.specs.Offers.{IsAttached};
 ghost use Rattle.gap_ring.specs.TakerView.{ring_of_taker, turn_of_taker};
 ghost use Rattle.gap_ring.specs.PutterView.{ring_of, bus_of, offers_of, has_ended};
 
-use crate::{Met, Offer, Putter, Take, Taker, meet, ring};
 use bench_model::{Body, Item, Missed, Reading};
+use gap_ring::{Met, Offer, Putter, Take, Taker, meet, ring};
 use std::alloc::Global;
 use std::process::Abort;
 use std::test::Fail;

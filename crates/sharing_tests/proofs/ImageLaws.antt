@@ -13,27 +13,27 @@ use Rattle.image_words.specs.Index.{key_entries, HasIndex}
 use Rattle.image_words.specs.Image.{HasBus, Encodes}
 use Rattle.region_store.specs.Images.{IsLike, IsImage}
 
-abbrev pub test_image : List ℕ → List ℕ
-test_image rest = 10 ∷ 1 ∷ 0 ∷ 589825 ∷ 0 ∷ 0 ∷ 0 ∷ 0 ∷ 0 ∷ 65 ∷ rest
+abbrev pub image : List ℕ → List ℕ
+image rest = 10 ∷ 1 ∷ 0 ∷ 589825 ∷ 0 ∷ 0 ∷ 0 ∷ 0 ∷ 0 ∷ 65 ∷ rest
 
-abbrev test_bus : Bus
-test_bus = record { kind = Can; name = 65 ∷ []; database = record { messages = [] } }
+abbrev bus : Bus
+bus = record { kind = Can; name = 65 ∷ []; database = record { messages = [] } }
 
-abbrev test_bench : Bench
-test_bench = record { buses = test_bus ∷ [] }
+abbrev bench : Bench
+bench = record { buses = bus ∷ [] }
 
 module _ (rest : List ℕ) where
-  bus_name : HasText (test_image rest) 589825 (65 ∷ [])
+  bus_name : HasText (image rest) 589825 (65 ∷ [])
   unfolding bytes_from
   bus_name = record { size = refl; within = λ h. omega arith; empty = λ e. absurd (omega (arith, e)); content = refl }
 
-  no_index : HasIndex (test_image rest) [] 0 0
+  no_index : HasIndex (image rest) [] 0 0
   no_index = record {
     within = λ h. absurd (omega (arith, h));
     index = record { ascending = IsNonDecreasingBy-short (λ (x : ℕ). x) [] (omega arith); same = IsPermutation-refl [] };
   }
 
-  bus_row : HasBus (test_image rest) 2 test_bus
+  bus_row : HasBus (image rest) 2 bus
   unfolding EachRow key_entries
   bus_row = record {
     within = omega arith;
@@ -45,7 +45,7 @@ module _ (rest : List ℕ) where
     groups = no_index;
   }
 
-  encodes : Encodes (test_image rest) test_bench
+  encodes : Encodes (image rest) bench
   unfolding EachRow
   encodes = record { header = omega arith; whole = omega arith; buses = record { size = refl; each = (bus_row, tt) } }
 
@@ -53,21 +53,21 @@ valid : IsValid (record { messages = [] })
 unfolding faults_by
 valid = record { made = All-nil IsMade; faultless = refl }
 
-bench_valid : IsValidBench test_bench
+bench_valid : IsValidBench bench
 bench_valid = record {
   some_buses = omega arith;
   buses = omega arith;
   names = λ i j d less within. absurd (omega (arith, less, within));
-  valid = All-cons IsValidBus test_bus [] (record { some_bytes = omega arith; bytes = omega arith; database = valid }) (All-nil IsValidBus);
+  valid = All-cons IsValidBus bus [] (record { some_bytes = omega arith; bytes = omega arith; database = valid }) (All-nil IsValidBus);
 }
 
-pub test_is_image : (rest : List ℕ) → IsImage (test_image rest)
-test_is_image rest = record { bench = test_bench; encodes = encodes rest; valid = bench_valid }
+pub is_image : (rest : List ℕ) → IsImage (image rest)
+is_image rest = record { bench = bench; encodes = encodes rest; valid = bench_valid }
 
-pub test_is_like : (a b : List ℕ) → IsLike (test_image a) (test_image b)
-test_is_like a b = record {
-  before = test_bench;
-  bench = test_bench;
+pub is_like : (a b : List ℕ) → IsLike (image a) (image b)
+is_like a b = record {
+  before = bench;
+  bench = bench;
   first_encodes = encodes a;
   encodes = encodes b;
   valid = bench_valid;

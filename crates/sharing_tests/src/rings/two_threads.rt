@@ -9,8 +9,8 @@ ghost use Rattle.gap_ring.specs.TakerView.{ring_of_taker, turn_of_taker};
 ghost use Rattle.gap_ring.specs.MetView.{IsPair};
 
 use super::{Answer, Got, offer, take};
-use crate::{Putter, Taker, meet, ring};
 use bench_model::Missed;
+use gap_ring::{Putter, Taker, meet, ring};
 use std::alloc::{AllocError, Global};
 use std::process::Abort;
 use std::sync::Wait;
