@@ -21,6 +21,3 @@ pub use databases::{read_database, read_databases};
 pub use laws::{files_that_are_there, one_reading_of_a_database, one_reading_of_databases};
 pub use logs::open_logs;
 pub use refused::{BenchRefused, FileRefused, LogRefused};
-
-#[cfg(test)]
-mod tests;

@@ -16,4 +16,3 @@ pub mod SomeDueLaws
 pub mod RunLaws
 pub mod KeptLaws
 pub mod ReplyLaws
-pub mod TestLaws

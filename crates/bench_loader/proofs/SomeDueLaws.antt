@@ -6,6 +6,7 @@ use Rattle.std.specs.Str.{bytes_eq}
 use Rattle.std.proofs.lemmas.Bool.{cases_Bool, cases_eq}
 use Rattle.std.proofs.lemmas.Bool.Decides.{leb_tells}
 use Rattle.std.proofs.lemmas.Slice.Eq.{bytes_eq-Decides}
+use Rattle.std.proofs.lemmas.List.Elements.{All-nil}
 use Rattle.std.proofs.lemmas.List.{append-nil, append_assoc, length-map}
 use Rattle.text_words.specs.Words.{words_of}
 use Rattle.port_io.specs.Library.{named}
@@ -13,11 +14,13 @@ use Rattle.decisions.specs.Decisions.{Decides}
 use Rattle.decisions.specs.ListDecisions.{FirstFails, decides_list, decides_first}
 use Rattle.bench_model.specs.declared.database.Kind.{Kind}
 use Rattle.bench_model.specs.declared.database.Kind.TheVariants as kinds
+use Rattle.bench_model.specs.declared.database.Message.{Message}
 use Rattle.bench_model.specs.declared.database.Database.{Database}
 use Rattle.bench_model.specs.declared.database.Bench.{Bench}
 use Rattle.bench_model.specs.declared.valid.Valid.{Valid}
 use Rattle.bench_model.specs.declared.replace.Change.{Change}
-use Rattle.bench_model.specs.Check.{IsValid}
+use Rattle.bench_model.specs.Limits.{IsMade}
+use Rattle.bench_model.specs.Check.{IsValid, faults_by}
 use Rattle.bench_model.specs.Replaced.{bench_after}
 use Rattle.image_compiler.specs.Size.{image_size}
 use Rattle.bench_inputs.specs.declared.database_file.DatabaseFile.{DatabaseFile}
@@ -37,7 +40,6 @@ use Rattle.bench_loader.specs.NextBench.{file_names, IsChange, IsRefusedChange, 
 use Rattle.bench_loader.specs.Verdict.{IsMissing}
 use Rattle.bench_loader.specs.Due.{Limits, LacksFile, Due}
 use Rattle.bench_loader.proofs.LineLaws.{has_file, is_named, rules_of_none, keep_pair, breaks_few, breaks_file, breaks_bus, not_load, no_words, too_long, other_pairs, no_pairs, is_load}
-use Rattle.bench_loader.proofs.TestLaws.{empty_valid}
 use Rattle.bench_loader.proofs.ZipLaws.{length-all_zip}
 use Rattle.bench_loader.proofs.DueLaws.{same_pairs, one_load, targets, changes, named_or_unknown, HasFor}
 
@@ -117,6 +119,16 @@ load_or_other line =
     ]
 
 -- ---- what its files make
+
+none_valid : IsValid (record { messages = [] })
+unfolding faults_by
+none_valid = record { made = All-nil IsMade; faultless = refl }
+
+empty_valid : (d : Database) → d.messages ≡ [] → IsValid d
+empty_valid d e =
+    let none : Database = record { messages = [] } in
+    let same : d ≡ none = ap (λ (ms : List Message). let r : Database = record { messages = ms } in r) e in
+    subst IsValid (sym same) none_valid
 
 -- a database that a file holds is valid
 holds_valid : (kind : Kind) (file : DatabaseFile) (d : Database) → Holds kind file d → IsValid d

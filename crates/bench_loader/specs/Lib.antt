@@ -20,4 +20,3 @@ pub mod LoadView
 pub mod ReplyView
 pub mod CommandView
 pub mod LoaderView
-pub mod TestView

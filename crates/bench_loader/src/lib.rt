@@ -38,6 +38,3 @@ pub use load_line::Pair;
 pub use loader::Loader;
 pub use reply::Reply;
 pub use targets::Target;
-
-#[cfg(test)]
-mod tests;

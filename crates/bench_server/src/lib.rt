@@ -24,6 +24,3 @@ mod tool;
 pub use laws::{a_run_without_faults_is_whole, one_end};
 pub use status::Status;
 pub use tool::{Ran, run_tool};
-
-#[cfg(test)]
-mod tests;

@@ -6,9 +6,10 @@ ghost use Rattle.region_store.specs.Layout.{most_regions, most_lanes, most_room}
 ghost use Rattle.region_store.specs.Ends.{IsLaneOf};
 ghost use Rattle.region_store.specs.LoaderEnd.{AreLanesOf};
 ghost use Rattle.bench_loader.specs.LoaderView.{IsLoaderOn};
-ghost use Rattle.bench_loader.specs.TestView.{IsEmptyBus};
+ghost use Rattle.tool_tests.specs.EmptyBus.{IsEmptyBus};
 
 use super::*;
+use bench_loader::{Loader, Reply};
 use bench_model::{Bench, Bus, Kind, Text};
 use image_compiler::compile;
 use image_words::one_encoded;
@@ -95,6 +96,13 @@ fn names(alloc: Global) -> Result<Vec<Text>, AllocError> {
     Ok(names)
 }
 
+/// The line of a reply.
+fn line_of(alloc: Global, reply: &Reply) -> Result<Vec<u8>, AllocError> {
+    let mut out = Vec::new(alloc);
+    reply.text(&names(alloc)?, &mut out)?;
+    Ok(out)
+}
+
 /// The line that answers a command.
 fn answer<B: Library>(
     alloc: Global,
@@ -107,9 +115,7 @@ fn answer<B: Library>(
     ensures loader { IsLoaderOn store.now loader.new }
 {
     let reply = loader.command(alloc, line, library, store);
-    let mut out = Vec::new(alloc);
-    reply.text(&names(alloc)?, &mut out)?;
-    Ok(out)
+    line_of(alloc, &reply)
 }
 
 fn files(alloc: Global) -> Result<Vec<MemFile>, AllocError> {

@@ -9,7 +9,7 @@ use Rattle.bench_model.specs.declared.database.Bench.{Bench}
 use Rattle.bench_model.specs.Limits.{IsMade}
 use Rattle.bench_model.specs.Check.{IsValid, faults_by}
 use Rattle.bench_model.specs.ValidBench.{IsValidBus, IsValidBench, longest_bus_name}
-use Rattle.bench_loader.specs.TestView.{IsEmptyBus}
+use Rattle.tool_tests.specs.EmptyBus.{IsEmptyBus}
 
 none_valid : IsValid (record { messages = [] })
 unfolding faults_by

@@ -1,9 +1,9 @@
 //! Each phase over files in memory, and each call of the library failing in turn.
 
-use crate::{
+use bench_file::{Plan, PlannedBus};
+use bench_inputs::{
     BenchRefused, DatabaseFile, FileRefused, LogRefused, open_logs, read_bench, read_databases,
 };
-use bench_file::{Plan, PlannedBus};
 use port_io::{MemFile, MemLibrary, MemLog, Source};
 use std::alloc::{AllocError, Global};
 use std::process::Abort;

@@ -1,5 +1,5 @@
 use Rattle.bench_loader.specs.LoaderView.{IsLoaderOn}
-use Rattle.bench_loader.proofs.tests.commands.are_answered.Given as goal
+use Rattle.tool_tests.proofs.loading.commands.are_answered.Given as goal
 
 -- the loader works on the store
 abbrev pub invariant-loop-line : goal.invariant-loop-line

@@ -193,10 +193,13 @@ fn long_files(alloc: Global) -> Result<Vec<MemFile>, AllocError> {
 fn a_database_of_too_many_bytes_is_long(rt: HostRuntime) -> Result<(), Fail> {
     let files = long_files(rt.alloc())?;
     let left = run_over(rt.alloc(), DECODE, &files, &QUIET)?;
-    assert_eq!(rt; left.status.code(), 4);
-    assert_eq!(rt; left.out.len(), 0);
-    assert_eq!(rt; left.err.as_slice(), b"refused A long\n".as_slice());
-    assert_eq!(rt; left.logs, 0);
+    let end = End {
+        code: 4,
+        out: b"",
+        err: b"refused A long\n",
+        logs: 0,
+    };
+    is_end(&rt, &left, &end);
     Ok(())
 }
 

@@ -1,20 +1,21 @@
 //! Files checked by their names.
 
 use super::*;
-use port_io::MemLibrary;
+use bench_loader::{CheckRefused, check_file};
+use bench_model::Valid;
+use port_io::{Library, MemLibrary};
 use std::process::Abort;
 use std::test::*;
 
-/// The messages of the file of this name, or why it gives none; the calls of these numbers fail.
-fn outcome(
-    alloc: Global,
-    files: &[MemFile],
-    fails: &[u64],
-    name: &str,
-) -> Result<Vec<u8>, AllocError> {
-    let mut library = MemLibrary::new(files, Vec::from_slice(alloc, fails)?);
+/// The check alone: its callers see none of its clauses.
+fn checked<B: Library>(alloc: Global, library: &mut B, name: &str) -> Result<Valid, CheckRefused> {
+    check_file(alloc, library, name)
+}
+
+/// The messages of a database, or why there is none.
+fn text_of(alloc: Global, checked: Result<Valid, CheckRefused>) -> Result<Vec<u8>, AllocError> {
     let mut out = Vec::new(alloc);
-    match check_file(alloc, &mut library, name) {
+    match checked {
         Ok(valid) => {
             out.extend_from_slice(b"ok")?;
             append_names(&mut out, &valid.into_database())?;
@@ -25,6 +26,18 @@ fn outcome(
         Err(CheckRefused::Memory) => out.extend_from_slice(b"out of memory")?,
     }
     Ok(out)
+}
+
+/// The messages of the file of this name, or why it gives none; the calls of these numbers fail.
+fn outcome(
+    alloc: Global,
+    files: &[MemFile],
+    fails: &[u64],
+    name: &str,
+) -> Result<Vec<u8>, AllocError> {
+    let mut library = MemLibrary::new(files, Vec::from_slice(alloc, fails)?);
+    let checked = checked(alloc, &mut library, name);
+    text_of(alloc, checked)
 }
 
 /// Names, the bytes of the file that has them, and what is answered.
@@ -39,10 +52,15 @@ const NAMES: [(&str, &[u8], &[u8]); 8] = [
     ("a.dbc", SENDERLESS, b"statement 11"),
 ];
 
+/// The same of a library with this file alone.
+fn outcome_of_one(alloc: Global, name: &str, bytes: &[u8]) -> Result<Vec<u8>, AllocError> {
+    let files = vec![in alloc; file_named(alloc, name, bytes)?]?;
+    outcome(alloc, &files, &[], name)
+}
+
 fn are_checked(rt: &impl Abort, alloc: Global, rows: &[(&str, &[u8], &[u8])]) -> Result<(), Fail> {
     for (name, bytes, wanted) in rows {
-        let files = vec![in alloc; file_named(alloc, name, bytes)?]?;
-        assert_eq!(rt; outcome(alloc, &files, &[], name)?.as_slice(), *wanted);
+        assert_eq!(rt; outcome_of_one(alloc, name, bytes)?.as_slice(), *wanted);
     }
     Ok(())
 }

@@ -1,8 +1,8 @@
 use Rattle.std.proofs.Common.{◌∙◌, ap, List, [], ◌∷◌, ◌++◌}
 use Rattle.bench_model.specs.declared.database.Bus.{Bus}
 use Rattle.bench_model.specs.declared.database.Bench.{Bench}
-use Rattle.bench_loader.proofs.TestLaws.{one_valid}
-use Rattle.bench_loader.proofs.tests.commands.one_bus.Goals as goal
+use Rattle.tool_tests.proofs.BusLaws.{one_valid}
+use Rattle.tool_tests.proofs.loading.commands.one_bus.Goals as goal
 
 pub returns : goal.returns
 returns c =

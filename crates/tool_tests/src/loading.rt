@@ -1,6 +1,5 @@
 //! Files judged and checked, and the words of every fault.
 
-use super::*;
 use bench_model::Database;
 use port_io::MemFile;
 use std::alloc::{AllocError, Global};

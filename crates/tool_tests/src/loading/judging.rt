@@ -1,9 +1,10 @@
 //! Files of each kind of bus, and benches of them.
 
 use super::*;
-use bench_file::{Plan, PlanFault, read_plan};
+use bench_file::{Plan, PlanFault, PlannedBus, read_plan};
 use bench_inputs::DatabaseFile;
-use bench_model::Kind;
+use bench_loader::{BenchRefused, JudgeRefused, judge_bench, judge_database};
+use bench_model::{Bench, Kind, Valid};
 use multiplex_tree::List;
 use std::process::Abort;
 use std::test::*;
@@ -76,10 +77,15 @@ fn file_of(alloc: Global, bytes: &[u8]) -> Result<DatabaseFile, AllocError> {
     })
 }
 
+/// The judgement alone: its callers see none of its clauses.
+fn judged(alloc: Global, kind: Kind, file: &DatabaseFile) -> Result<Valid, JudgeRefused> {
+    judge_database(alloc, kind, file)
+}
+
 /// The messages of a file's database, or the words of its fault.
 fn outcome(alloc: Global, kind: Kind, file: &DatabaseFile) -> Result<Vec<u8>, AllocError> {
     let mut out = Vec::new(alloc);
-    match judge_database(alloc, kind, file) {
+    match judged(alloc, kind, file) {
         Ok(valid) => {
             out.extend_from_slice(b"ok")?;
             append_names(&mut out, &valid.into_database())?;
@@ -127,32 +133,52 @@ fn plan(alloc: Global) -> Result<Plan, PlanFault> {
     )
 }
 
-/// The buses with their messages, or the first that is refused with its fault.
-fn bench_outcome(alloc: Global, files: &[DatabaseFile]) -> Result<Vec<u8>, AllocError> {
-    let mut out = Vec::new(alloc);
-    let Ok(plan) = plan(alloc) else {
-        out.extend_from_slice(b"no plan")?;
-        return Ok(out);
-    };
-    let buses = plan.buses.items();
+/// The judgement alone, where there are as many files as buses.
+fn judged_bench(
+    alloc: Global,
+    buses: &[PlannedBus],
+    files: &[DatabaseFile],
+) -> Option<Result<Bench, BenchRefused>> {
     if buses.len() != files.len() || buses.len() > 16 {
-        out.extend_from_slice(b"not as many files as buses")?;
-        return Ok(out);
+        return None;
     }
-    match judge_bench(alloc, buses, files) {
-        Ok(bench) => {
-            for bus in bench.buses.items() {
-                out.extend_from_slice(bus.name.bytes())?;
-                append_names(&mut out, &bus.database)?;
-                out.push(b';')?;
-            }
-        }
-        Err(BenchRefused::Refused { bus, fault }) => {
+    Some(judge_bench(alloc, buses, files))
+}
+
+/// Appends each bus with its messages.
+fn append_buses(out: &mut Vec<u8>, bench: &Bench) -> Result<(), AllocError> {
+    for bus in bench.buses.items() {
+        out.extend_from_slice(bus.name.bytes())?;
+        append_names(out, &bus.database)?;
+        out.push(b';')?;
+    }
+    Ok(())
+}
+
+/// Appends which bus is refused, and its fault.
+fn append_refusal(
+    alloc: Global,
+    out: &mut Vec<u8>,
+    refused: BenchRefused,
+) -> Result<(), AllocError> {
+    match refused {
+        BenchRefused::Refused { bus, fault } => {
             let place = format!(in alloc; "refused {bus} ")?;
             out.extend_from_slice(place.as_bytes())?;
-            fault.text(&mut out)?;
+            fault.text(out)
         }
-        Err(BenchRefused::Memory) => out.extend_from_slice(b"out of memory")?,
+        BenchRefused::Memory => out.extend_from_slice(b"out of memory"),
+    }
+}
+
+/// The buses with their messages, or the first that is refused with its fault.
+fn bench_outcome(alloc: Global, files: &[DatabaseFile]) -> Result<Vec<u8>, Fail> {
+    let plan = plan(alloc)?;
+    let judged = judged_bench(alloc, plan.buses.items(), files);
+    let mut out = Vec::new(alloc);
+    match judged.ok_or("as many files as buses")? {
+        Ok(bench) => append_buses(&mut out, &bench)?,
+        Err(refused) => append_refusal(alloc, &mut out, refused)?,
     }
     Ok(out)
 }

@@ -1,8 +1,8 @@
 use Rattle.std.proofs.Common.{◌∙◌, ap, List, [], ◌∷◌, ◌++◌, arith}
 use Rattle.bench_model.specs.declared.database.Bus.{Bus}
 use Rattle.bench_model.specs.declared.database.Bench.{Bench}
-use Rattle.bench_loader.proofs.TestLaws.{two_valid}
-use Rattle.bench_loader.proofs.tests.commands.two_buses.Goals as goal
+use Rattle.tool_tests.proofs.BusLaws.{two_valid}
+use Rattle.tool_tests.proofs.loading.commands.two_buses.Goals as goal
 
 pub returns : goal.returns
 returns c =

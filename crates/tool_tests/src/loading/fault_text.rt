@@ -1,6 +1,7 @@
 //! The words of each kind of fault.
 
 use super::*;
+use bench_loader::DatabaseFault;
 use bench_model::{CheckFault, CheckWhy, Key, Text};
 use dbc_grammar::DbcFault;
 use ldf_grammar::LdfFault;

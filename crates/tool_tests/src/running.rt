@@ -1,7 +1,10 @@
+//! Runs of the tool over files in memory: what each leaves on its two outputs, its exit status, and how many logs it
+//! hands back.
+
 ghost use Rattle.std.specs.Prelude.{◌≤◌};
 
-use super::*;
-use port_io::{MemFile, MemLibrary, MemSink};
+use bench_server::{Status, run_tool};
+use port_io::{Library, MemFile, MemLibrary, MemSink, Sink};
 use std::alloc::{AllocError, Global};
 use std::process::Abort;
 use std::test::*;
@@ -95,6 +98,21 @@ fn words_of(alloc: Global, words: &[&str]) -> Result<Vec<String>, AllocError> {
     Ok(made)
 }
 
+/// The tool alone: its callers see none of its clauses.
+fn tool<B: Library, K: Sink, E: Sink>(
+    alloc: Global,
+    words: &[String],
+    library: &mut B,
+    out: &mut K,
+    err: &mut E,
+) -> (Status, usize)
+where
+    B::Log: Drop,
+{
+    let ran = run_tool(alloc, words, library, out, err);
+    (ran.status, ran.logs.items().len())
+}
+
 /// Runs the tool over these files in memory.
 fn run_over(
     alloc: Global,
@@ -116,12 +134,12 @@ fn run_over(
         outside.step,
         Vec::from_slice(alloc, outside.lines)?,
     );
-    let ran = run_tool(alloc, &words, &mut library, &mut out, &mut err);
+    let (status, logs) = tool(alloc, &words, &mut library, &mut out, &mut err);
     Ok(Left {
-        status: ran.status,
+        status,
         out: Vec::from_slice(alloc, out.bytes())?,
         err: Vec::from_slice(alloc, err.bytes())?,
-        logs: ran.logs.items().len(),
+        logs,
     })
 }
 
@@ -146,6 +164,14 @@ struct End<'a> {
     logs: usize,
 }
 
+/// What a run left is this end.
+fn is_end(rt: &impl Abort, left: &Left, end: &End<'_>) {
+    assert_eq!(rt; left.status.code(), end.code);
+    assert_eq!(rt; left.out.as_slice(), end.out);
+    assert_eq!(rt; left.err.as_slice(), end.err);
+    assert_eq!(rt; left.logs, end.logs);
+}
+
 /// The run ends so.
 fn ends(
     rt: &impl Abort,
@@ -155,11 +181,15 @@ fn ends(
     end: &End<'_>,
 ) -> Result<(), AllocError> {
     let left = run(rt, alloc, case, outside)?;
-    assert_eq!(rt; left.status.code(), end.code);
-    assert_eq!(rt; left.out.as_slice(), end.out);
-    assert_eq!(rt; left.err.as_slice(), end.err);
-    assert_eq!(rt; left.logs, end.logs);
+    is_end(rt, &left, end);
     Ok(())
+}
+
+/// What a run left is this text, with no fault.
+fn is_text(rt: &impl Abort, left: &Left, out: &[u8]) {
+    assert_eq!(rt; left.status.code(), 0);
+    assert_eq!(rt; left.out.as_slice(), out);
+    assert_eq!(rt; left.err.len(), 0);
 }
 
 /// The files of a bench that is decoded, and its text.
@@ -178,9 +208,7 @@ fn all_decode(
             files,
         };
         let left = run(rt, alloc, &case, outside)?;
-        assert_eq!(rt; left.status.code(), 0);
-        assert_eq!(rt; left.out.as_slice(), *out);
-        assert_eq!(rt; left.err.len(), 0);
+        is_text(rt, &left, out);
     }
     Ok(())
 }

@@ -1,0 +1,2 @@
+-- how the buses of the tests are seen
+pub mod EmptyBus
