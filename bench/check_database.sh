@@ -1,5 +1,5 @@
 #!/usr/bin/env bash
-# How long `check` takes over a database of 65,536 messages with 16 signals each: a small program that stands on
+# How long `check` takes over a database of 65,536 messages with 16 signals each: a small program that depends on
 # bench_model is proved and built in a folder of its own, and run five times. Wanted is well under a second.
 #
 #   bench/check_database.sh

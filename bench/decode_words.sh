@@ -1,6 +1,6 @@
 #!/usr/bin/env bash
 # How fast frames are decoded from the words of an image: 1,000,000 frames of 64 messages of four signals, once as values
-# of their own (`decode`) and once by a visitor that adds up the raw values (`walk`). A small program that stands on
+# of their own (`decode`) and once by a visitor that adds up the raw values (`walk`). A small program that depends on
 # image_compiler is proved and built in a folder of its own. Prints nanoseconds a frame, the least of seven runs of each.
 #
 #   bench/decode_words.sh

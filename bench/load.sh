@@ -24,7 +24,9 @@ cp "$top/bench/load/main.rt.txt" "$speed/src/main.rt"
     cp "$top/bench/load/$file" "$speed/${file%.txt}"
 done
 # the bench is that of the tests
-cp "$top/crates/bench_loader/proofs/TestLaws.antt" "$speed/proofs/"
+tests="$top/crates/tool_tests"
+sed 's/Rattle\.tool_tests\./Rattle.load_speed./' "$tests/proofs/BusLaws.antt" > "$speed/proofs/BusLaws.antt"
+cp -r "$tests/specs" "$speed/"
 (cd "$speed" && rt run > "$work/proof.txt" 2>&1 < /dev/null) || { tail -20 "$work/proof.txt" >&2; exit 2; }
 
 python3 - "$speed/out/load_speed" "$work/new.dbc" <<'PYTHON'

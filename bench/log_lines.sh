@@ -12,7 +12,7 @@ top="$(cd "$(dirname "$0")/.." && pwd)"
 work="$(mktemp -d)"
 trap 'rm -rf "$work"' EXIT
 
-# the program stands in a repository of its own, over copies of the crates below it
+# the program is in a repository of its own, over copies of the crates below it
 mkdir -p "$work/crates/log_lines/src"
 git -C "$work" init -q
 for crate in port_io byte_forms exact_scale multiplex_tree bench_model candump_log; do

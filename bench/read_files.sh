@@ -1,6 +1,6 @@
 #!/usr/bin/env bash
 # How fast a database of 16 MiB is read, how its time grows from 8 MiB to 16 MiB, and how much memory it takes: a small
-# program that stands on the crate of the format is proved and built in a folder of its own. Each run is made nine times,
+# program that depends on the crate of the format is proved and built in a folder of its own. Each run is made nine times,
 # and the least processor time counts. Wanted: at most 2.3 times the time for twice the size, 15 MB a second, and memory
 # of at most 24 times the file.
 #

@@ -10,7 +10,7 @@ top="$(cd "$(dirname "$0")/.." && pwd)"
 work="$(mktemp -d)"
 trap 'rm -rf "$work"' EXIT
 
-# the program stands in a repository of its own, over copies of the crates below it
+# the program is in a repository of its own, over copies of the crates below it
 speed="$work/crates/store_speed"
 mkdir -p "$speed/src"
 git -C "$work" init -q
@@ -26,7 +26,7 @@ cp "$top/bench/store/main.rt.txt" "$speed/src/main.rt"
     cp "$top/bench/store/$file" "$speed/${file%.txt}"
 done
 # the images are those of the tests
-cp "$top/crates/region_store/proofs/TestLaws.antt" "$speed/proofs/"
+cp "$top/crates/sharing_tests/proofs/ImageLaws.antt" "$speed/proofs/"
 (cd "$speed" && rt run > "$work/proof.txt" 2>&1 < /dev/null) || { tail -20 "$work/proof.txt" >&2; exit 2; }
 
 python3 - "$speed/out/store_speed" <<'PYTHON'

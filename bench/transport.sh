@@ -9,7 +9,7 @@ crates="$(cd "$(dirname "$0")/../crates" && pwd)"
 work="$(mktemp -d)"
 trap 'rm -rf "$work"' EXIT
 
-# a crate and those of the repository that it stands on
+# a crate and those of the repository that it depends on
 copy_crate() {
   [ ! -d "$work/crates/$1" ] || return 0
   cp -r "$crates/$1" "$work/crates/$1"
