@@ -129,6 +129,17 @@ fn text_of(alloc: Global, first: &str, second: &str, third: &str) -> Result<Stri
     Ok(text)
 }
 
+/// The three texts of `FRAMES`, `LISTED` and `GROUP`.
+fn whole_text(alloc: Global) -> Result<String, Fail> {
+    text_of(alloc, FRAMES.text, LISTED.text, GROUP.text)
+}
+
+/// Nothing was refused, and this was written.
+fn assert_whole(rt: &impl Abort, outcome: &Outcome, text: &str) {
+    assert!(rt; outcome.refused.is_none());
+    assert_eq!(rt; outcome.sink.bytes(), text.as_bytes());
+}
+
 /// The text of a bus of each kind is written whole, in these pieces.
 fn assert_text(rt: &impl Abort, alloc: Global, read: usize, write: usize) -> Result<(), Fail> {
     let pieces = Pieces {
@@ -136,10 +147,9 @@ fn assert_text(rt: &impl Abort, alloc: Global, read: usize, write: usize) -> Res
         write,
         ..WHOLE
     };
+    let text = whole_text(alloc)?;
     let outcome = print(alloc, &FRAMES, &LISTED, &GROUP, pieces)?;
-    let text = text_of(alloc, FRAMES.text, LISTED.text, GROUP.text)?;
-    assert_eq!(rt; outcome.refused, None);
-    assert_eq!(rt; outcome.sink.bytes(), text.as_bytes());
+    assert_whole(rt, &outcome, text.as_str());
     Ok(())
 }
 
@@ -216,6 +226,13 @@ fn a_log_that_fails_stops_the_text_and_leaves_the_later_logs(rt: HostRuntime) ->
     )
 }
 
+/// A write was refused, and what was written is a prefix of this length.
+fn assert_cut(rt: &impl Abort, outcome: &Outcome, text: &str, length: usize) {
+    assert!(rt; matches!(outcome.refused, Some(BusesRefused::WriteFault)));
+    assert!(rt; text.as_bytes().starts_with(outcome.sink.bytes()));
+    assert_eq!(rt; outcome.sink.bytes().len(), length);
+}
+
 /// Where this write fails, the writes before it have written a prefix of the text.
 fn assert_prefix(
     rt: &impl Abort,
@@ -228,11 +245,9 @@ fn assert_prefix(
         failing_writes,
         ..WHOLE
     };
+    let text = whole_text(alloc)?;
     let outcome = print(alloc, &FRAMES, &LISTED, &GROUP, pieces)?;
-    let text = text_of(alloc, FRAMES.text, LISTED.text, GROUP.text)?;
-    assert_eq!(rt; outcome.refused, Some(BusesRefused::WriteFault));
-    assert!(rt; text.as_bytes().starts_with(outcome.sink.bytes()));
-    assert_eq!(rt; outcome.sink.bytes().len(), length);
+    assert_cut(rt, &outcome, text.as_str(), length);
     Ok(())
 }
 

@@ -113,6 +113,20 @@ where
     (ran.status, ran.logs.items().len())
 }
 
+/// A sink with so many bytes of room.
+fn sink_of(alloc: Global, room: usize, step: usize, fails: &[u64]) -> Result<MemSink, AllocError>
+    requires { 1 ≤ step }
+{
+    let room = vec![in alloc; 0; room]?;
+    let fails = Vec::from_slice(alloc, fails)?;
+    Ok(MemSink::new(room, step, fails))
+}
+
+/// The bytes that were written.
+fn bytes_of(alloc: Global, sink: &MemSink) -> Result<Vec<u8>, AllocError> {
+    Vec::from_slice(alloc, sink.bytes())
+}
+
 /// Runs the tool over these files in memory.
 fn run_over(
     alloc: Global,
@@ -124,21 +138,15 @@ fn run_over(
 {
     let words = words_of(alloc, words)?;
     let mut library = MemLibrary::new(files, Vec::from_slice(alloc, outside.library)?);
-    let mut out = MemSink::new(
-        vec![in alloc; 0; outside.room]?,
-        outside.step,
-        Vec::from_slice(alloc, outside.writes)?,
-    );
-    let mut err = MemSink::new(
-        vec![in alloc; 0; 256]?,
-        outside.step,
-        Vec::from_slice(alloc, outside.lines)?,
-    );
+    let mut out = sink_of(alloc, outside.room, outside.step, outside.writes)?;
+    let mut err = sink_of(alloc, 256, outside.step, outside.lines)?;
     let (status, logs) = tool(alloc, &words, &mut library, &mut out, &mut err);
+    let out = bytes_of(alloc, &out)?;
+    let err = bytes_of(alloc, &err)?;
     Ok(Left {
         status,
-        out: Vec::from_slice(alloc, out.bytes())?,
-        err: Vec::from_slice(alloc, err.bytes())?,
+        out,
+        err,
         logs,
     })
 }
@@ -195,20 +203,33 @@ fn is_text(rt: &impl Abort, left: &Left, out: &[u8]) {
 /// The files of a bench that is decoded, and its text.
 type Decoded = (&'static [File<'static>], &'static [u8]);
 
-/// Each bench is decoded to its text, where the outside behaves so.
+/// A bench is decoded to its text, where the outside behaves so.
+fn decodes(
+    rt: &impl Abort,
+    alloc: Global,
+    files: &'static [File<'static>],
+    out: &[u8],
+    outside: &Outside<'_>,
+) -> Result<(), AllocError> {
+    let case = Case {
+        words: DECODE,
+        files,
+    };
+    let left = run(rt, alloc, &case, outside)?;
+    is_text(rt, &left, out);
+    Ok(())
+}
+
+/// Each bench is decoded to its text, where a call moves so many bytes.
 fn all_decode(
     rt: &impl Abort,
     alloc: Global,
     rows: &[Decoded],
-    outside: &Outside<'_>,
+    step: usize,
 ) -> Result<(), AllocError> {
+    let outside = Outside { step, ..QUIET };
     for (files, out) in rows {
-        let case = Case {
-            words: DECODE,
-            files,
-        };
-        let left = run(rt, alloc, &case, outside)?;
-        is_text(rt, &left, out);
+        decodes(rt, alloc, files, out, &outside)?;
     }
     Ok(())
 }
@@ -221,11 +242,7 @@ fn all_decode_by(
     steps: &[usize],
 ) -> Result<(), AllocError> {
     for step in steps {
-        let outside = Outside {
-            step: *step,
-            ..QUIET
-        };
-        all_decode(rt, alloc, rows, &outside)?;
+        all_decode(rt, alloc, rows, *step)?;
     }
     Ok(())
 }

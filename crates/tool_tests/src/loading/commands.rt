@@ -118,6 +118,18 @@ fn answer<B: Library>(
     line_of(alloc, &reply)
 }
 
+/// The line that answers a command over a store of its own, of a bench with a bus "A", in regions of 66 words.
+fn answer_of_one<B: Library>(alloc: Global, library: &mut B, line: &[u8]) -> Result<Vec<u8>, Fail> {
+    let (store, mut loader, _) = store_of(alloc, one_bus(alloc)?, 2, 66, u32::MAX)?;
+    Ok(answer(alloc, &store, &mut loader, library, line)?)
+}
+
+/// The same of a bench with a bus "L" behind it, in regions of 1,024 words.
+fn answer_of_two<B: Library>(alloc: Global, library: &mut B, line: &[u8]) -> Result<Vec<u8>, Fail> {
+    let (store, mut loader, _) = store_of(alloc, two_buses(alloc)?, 2, 1_024, u32::MAX)?;
+    Ok(answer(alloc, &store, &mut loader, library, line)?)
+}
+
 fn files(alloc: Global) -> Result<Vec<MemFile>, AllocError> {
     let mut files = Vec::new(alloc);
     files.push(file_named(alloc, "a.dbc", OIL)?)?;
@@ -308,15 +320,19 @@ fn a_load_is_busy_with_the_lane_of_each_region(rt: HostRuntime) -> Result<(), Fa
     Ok(())
 }
 
+/// A database of one byte more than it may have.
+fn long_files(alloc: Global) -> Result<Vec<MemFile>, AllocError> {
+    let mut file = file_named(alloc, "a.dbc", b"")?;
+    file.content = vec![in alloc; b'\n'; 16_777_217]?;
+    Ok(vec![in alloc; file]?)
+}
+
 #[test]
 fn a_database_above_the_limit_is_refused(rt: HostRuntime) -> Result<(), Fail> {
     let alloc = rt.alloc();
-    let mut file = file_named(alloc, "a.dbc", b"")?;
-    file.content = vec![in alloc; b'\n'; 16_777_217]?;
-    let files = vec![in alloc; file]?;
+    let files = long_files(alloc)?;
     let mut library = MemLibrary::new(&files, Vec::new(alloc));
-    let (store, mut loader, _) = store_of(alloc, one_bus(alloc)?, 2, 66, u32::MAX)?;
-    let reply = answer(alloc, &store, &mut loader, &mut library, b"LOAD A a.dbc")?;
+    let reply = answer_of_one(alloc, &mut library, b"LOAD A a.dbc")?;
     assert_eq!(rt; reply.as_slice(), b"refused A long\n".as_slice());
     Ok(())
 }
@@ -335,10 +351,8 @@ const CALLS: [(u64, &[u8]); 7] = [
 fn fail_in_turn(rt: &impl Abort, alloc: Global, rows: &[(u64, &[u8])]) -> Result<(), Fail> {
     let files = files(alloc)?;
     for (call, wanted) in rows {
-        let (store, mut loader, _) = store_of(alloc, two_buses(alloc)?, 2, 1_024, u32::MAX)?;
         let mut library = MemLibrary::new(&files, Vec::from_slice(alloc, &[*call])?);
-        let line = b"LOAD A a.dbc L l.ldf";
-        let reply = answer(alloc, &store, &mut loader, &mut library, line)?;
+        let reply = answer_of_two(alloc, &mut library, b"LOAD A a.dbc L l.ldf")?;
         assert_eq!(rt; reply.as_slice(), *wanted);
     }
     Ok(())
@@ -372,24 +386,43 @@ fn pairs(alloc: Global, count: u8, bytes: usize) -> Result<Vec<u8>, AllocError> 
     Ok(out)
 }
 
+/// This line is answered so, over a store of its own.
+fn is_answered(rt: &impl Abort, alloc: Global, line: &[u8], wanted: &[u8]) -> Result<(), Fail> {
+    let files = files(alloc)?;
+    let mut library = MemLibrary::new(&files, Vec::new(alloc));
+    let reply = answer_of_one(alloc, &mut library, line)?;
+    assert_eq!(rt; reply.as_slice(), wanted);
+    Ok(())
+}
+
+/// How many pairs, how many bytes a file name has, and the reply.
+const PAIRS: [(u8, usize, &[u8]); 4] = [
+    (16, 1, b"unknown Za\n"),
+    (17, 1, b"words\n"),
+    (1, 255, b"unknown Za\n"),
+    (1, 256, b"words\n"),
+];
+
+fn pairs_are_answered(
+    rt: &impl Abort,
+    alloc: Global,
+    rows: &[(u8, usize, &[u8])],
+) -> Result<(), Fail> {
+    for (count, bytes, wanted) in rows {
+        let line = pairs(alloc, *count, *bytes)?;
+        is_answered(rt, alloc, &line, wanted)?;
+    }
+    Ok(())
+}
+
 #[test]
 fn limits_of_a_line(rt: HostRuntime) -> Result<(), Fail> {
     let alloc = rt.alloc();
-    let (store, mut loader, _) = store_of(alloc, one_bus(alloc)?, 2, 66, u32::MAX)?;
-    are_answered(
-        &rt,
-        alloc,
-        &store,
-        &mut loader,
-        &[
-            (&pairs(alloc, 16, 1)?, b"unknown Za\n"),
-            (&pairs(alloc, 17, 1)?, b"words\n"),
-            (&pairs(alloc, 1, 255)?, b"unknown Za\n"),
-            (&pairs(alloc, 1, 256)?, b"words\n"),
-            (&padded(alloc, b"LOAD A a.dbc", 8_193)?, b"words\n"),
-            (&padded(alloc, b"LOAD A a.dbc", 8_192)?, b"ok 1\n"),
-        ],
-    )
+    pairs_are_answered(&rt, alloc, &PAIRS)?;
+    let line = padded(alloc, b"LOAD A a.dbc", 8_193)?;
+    is_answered(&rt, alloc, &line, b"words\n")?;
+    let line = padded(alloc, b"LOAD A a.dbc", 8_192)?;
+    is_answered(&rt, alloc, &line, b"ok 1\n")
 }
 
 /// The replies whose lines no command above has.

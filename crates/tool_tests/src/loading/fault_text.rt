@@ -10,13 +10,8 @@ use sig_text::LexFault;
 use std::process::Abort;
 use std::test::*;
 
-/// The fault has this text.
-fn has_text(
-    rt: &impl Abort,
-    alloc: Global,
-    fault: &DatabaseFault,
-    text: &[u8],
-) -> Result<(), Fail> {
+/// The fault has this text. It is taken by value, so that a caller of many keeps none.
+fn has_text(rt: &impl Abort, alloc: Global, fault: DatabaseFault, text: &[u8]) -> Result<(), Fail> {
     let mut out = Vec::new(alloc);
     fault.text(&mut out)?;
     assert_eq!(rt; out.as_slice(), text);
@@ -34,30 +29,30 @@ fn ldf(fault: LdfFault) -> DatabaseFault {
 #[test]
 fn places_are_counted_in_bytes(rt: HostRuntime) -> Result<(), Fail> {
     let alloc = rt.alloc();
-    has_text(&rt, alloc, &DatabaseFault::Long, b"long")?;
+    has_text(&rt, alloc, DatabaseFault::Long, b"long")?;
     has_text(
         &rt,
         alloc,
-        &dbc(DbcFault::Statement { at: 11 }),
+        dbc(DbcFault::Statement { at: 11 }),
         b"statement 11",
     )?;
-    has_text(&rt, alloc, &dbc(DbcFault::Scale { at: 36 }), b"scale 36")?;
+    has_text(&rt, alloc, dbc(DbcFault::Scale { at: 36 }), b"scale 36")?;
     has_text(
         &rt,
         alloc,
-        &ldf(LdfFault::Statement { at: 0 }),
+        ldf(LdfFault::Statement { at: 0 }),
         b"statement 0",
     )?;
     has_text(
         &rt,
         alloc,
-        &ldf(LdfFault::Scale { at: 16777215 }),
+        ldf(LdfFault::Scale { at: 16777215 }),
         b"scale 16777215",
     )?;
     has_text(
         &rt,
         alloc,
-        &ldf(LdfFault::UnknownName { at: 44 }),
+        ldf(LdfFault::UnknownName { at: 44 }),
         b"name 44",
     )
 }
@@ -66,11 +61,45 @@ fn places_are_counted_in_bytes(rt: HostRuntime) -> Result<(), Fail> {
 fn lexical_faults_are_named_of_both_grammars(rt: HostRuntime) -> Result<(), Fail> {
     let alloc = rt.alloc();
     let fault = LexFault::OpenString { at: 7 };
-    has_text(&rt, alloc, &dbc(DbcFault::Lex { fault }), b"string 7")?;
+    has_text(&rt, alloc, dbc(DbcFault::Lex { fault }), b"string 7")?;
     let fault = LexFault::OpenComment { at: 8 };
-    has_text(&rt, alloc, &ldf(LdfFault::Lex { fault }), b"comment 8")?;
+    has_text(&rt, alloc, ldf(LdfFault::Lex { fault }), b"comment 8")?;
     let fault = LexFault::Byte { at: 9 };
-    has_text(&rt, alloc, &ldf(LdfFault::Lex { fault }), b"byte 9")
+    has_text(&rt, alloc, ldf(LdfFault::Lex { fault }), b"byte 9")
+}
+
+/// A broken rule of no message.
+fn alone(why: CheckWhy) -> CheckFault {
+    CheckFault::At {
+        why,
+        message: None,
+        signal: None,
+    }
+}
+
+/// A broken rule of a message.
+fn of_message(why: CheckWhy) -> CheckFault {
+    CheckFault::At {
+        why,
+        message: Some(Key {
+            extended: false,
+            id: 256,
+        }),
+        signal: None,
+    }
+}
+
+/// A broken rule of a signal of an extended message.
+fn of_signal(alloc: Global, why: CheckWhy) -> Result<CheckFault, AllocError> {
+    let signal = Text::of(alloc, b"Speed")?;
+    Ok(CheckFault::At {
+        why,
+        message: Some(Key {
+            extended: true,
+            id: 3,
+        }),
+        signal: Some(signal),
+    })
 }
 
 /// A broken rule is named alone, with a message, and with an extended message and a signal.
@@ -78,34 +107,16 @@ fn is_named(
     rt: &impl Abort,
     alloc: Global,
     why: CheckWhy,
-    alone: &[u8],
-    of_message: &[u8],
-    of_signal: &[u8],
+    rule: &[u8],
+    with_message: &[u8],
+    with_signal: &[u8],
 ) -> Result<(), Fail> {
-    let fault = CheckFault::At {
-        why,
-        message: None,
-        signal: None,
-    };
-    has_text(rt, alloc, &ldf(LdfFault::Check { fault }), alone)?;
-    let fault = CheckFault::At {
-        why,
-        message: Some(Key {
-            extended: false,
-            id: 256,
-        }),
-        signal: None,
-    };
-    has_text(rt, alloc, &dbc(DbcFault::Check { fault }), of_message)?;
-    let fault = CheckFault::At {
-        why,
-        message: Some(Key {
-            extended: true,
-            id: 3,
-        }),
-        signal: Some(Text::of(alloc, b"Speed")?),
-    };
-    has_text(rt, alloc, &dbc(DbcFault::Check { fault }), of_signal)
+    let fault = alone(why);
+    has_text(rt, alloc, ldf(LdfFault::Check { fault }), rule)?;
+    let fault = of_message(why);
+    has_text(rt, alloc, dbc(DbcFault::Check { fault }), with_message)?;
+    let fault = of_signal(alloc, why)?;
+    has_text(rt, alloc, dbc(DbcFault::Check { fault }), with_signal)
 }
 
 #[test]
@@ -130,7 +141,7 @@ fn is_mux(rt: &impl Abort, alloc: Global, why: MuxWhy, text: &[u8]) -> Result<()
         signal: Text::of(alloc, b"Mid")?,
         why,
     };
-    has_text(rt, alloc, &dbc(fault), text)
+    has_text(rt, alloc, dbc(fault), text)
 }
 
 #[test]
