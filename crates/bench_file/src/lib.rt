@@ -20,6 +20,7 @@ mod setting;
 pub use fault::PlanFault;
 pub use file_name::FileName;
 pub use laws::{limits_of_a_plan, one_plan_or_one_fault};
+pub use line::name_text;
 pub use plan::{Plan, PlannedBus};
-pub use read::read_plan;
+pub use read::{LONGEST_FILE, read_plan};
 pub use setting::Setting;

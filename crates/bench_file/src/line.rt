@@ -43,8 +43,8 @@ fn is_bus_name(name: &[u8]) -> bool
     1 <= name.len() && name.len() <= LONGEST_BUS_NAME && is_all(Class::WordByte, name)
 }
 
-/// The name of a file as text.
-fn file_name(name: &[u8]) -> Option<&str>
+/// The text of a file's name, where the bytes are one: 1 to 255 bytes of UTF-8.
+pub fn name_text(name: &[u8]) -> Option<&str>
     ensures { text_view result ≡ name_view name.now }
 {
     if name.is_empty() || name.len() > LONGEST_FILE_NAME {
@@ -75,9 +75,9 @@ fn bus_of<'a>(
     ensures { line_view result ≡ bus_of name.now (kind_of kind.now) log.now (text_view database.entry) }
 {
     let kind = kind_of(kind)?;
-    let log = file_name(log)?;
+    let log = name_text(log)?;
     let database = match database {
-        Some(database) => Some(file_name(database)?),
+        Some(database) => Some(name_text(database)?),
         None => None,
     };
     if !is_bus_name(name) {

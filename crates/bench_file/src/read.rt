@@ -11,7 +11,7 @@ use std::alloc::Global;
 use text_words::next_text_line;
 
 /// How many bytes a bench file may have.
-const LONGEST_FILE: usize = 65_536;
+pub const LONGEST_FILE: usize = 65_536;
 
 /// What the lines of a bench file say, or the first that breaks a rule.
 fn read_lines(alloc: Global, bytes: &[u8]) -> Result<Draft, PlanFault>

@@ -4,12 +4,9 @@ ghost use Rattle.bench_inputs.specs.Asking.{library_state};
 ghost use Rattle.bench_inputs.specs.Reading.{ReadsPlan};
 
 use crate::BenchRefused;
-use bench_file::{Plan, PlanFault, read_plan};
+use bench_file::{LONGEST_FILE, Plan, PlanFault, read_plan};
 use port_io::{Library, WholeRefused, read_whole};
 use std::alloc::Global;
-
-/// How many bytes a bench file may have.
-const LONGEST_FILE: usize = 65_536;
 
 /// Opens, reads and judges the bench file of this name.
 pub fn read_bench<B: Library>(

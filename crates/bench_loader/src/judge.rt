@@ -95,10 +95,7 @@ pub fn judge_database(alloc: Global, kind: Kind, file: &DatabaseFile) -> Result<
 fn judge_bus(alloc: Global, bus: &PlannedBus, file: &DatabaseFile) -> Result<Bus, JudgeRefused>
     ensures { JudgesBus (bus.now, file.now) result }
 {
-    let database = match judge_database(alloc, bus.kind, file) {
-        Ok(valid) => valid.into_database(),
-        Err(refused) => return Err(refused),
-    };
+    let database = judge_database(alloc, bus.kind, file)?.into_database();
     Ok(Bus {
         name: bus.name.copy(alloc)?,
         kind: bus.kind,

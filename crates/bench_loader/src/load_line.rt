@@ -4,14 +4,12 @@ ghost use Rattle.std.specs.Prelude.{◌≡◌};
 ghost use Rattle.std.specs.List.{list_any};
 ghost use Rattle.std.specs.Str.{bytes_eq};
 ghost use Rattle.text_words.specs.Words.{words_of};
-ghost use Rattle.bench_file.specs.ReadingView.{text_view, name_view};
 ghost use Rattle.bench_loader.specs.declared.load_line.Pair.{Pair};
 ghost use Rattle.bench_loader.specs.LineView.{AddsPair, ReadsPairs, ReadsLoad};
 
-use bench_file::FileName;
+use bench_file::{FileName, name_text};
 use bench_model::Text;
 use std::alloc::{AllocError, AllocFailed, Global};
-use std::str;
 use text_words::next_word;
 use thiserror::Error;
 
@@ -19,8 +17,6 @@ use thiserror::Error;
 const LONGEST_COMMAND: usize = 8_192;
 /// How many buses a command may name.
 const MOST_PAIRS: usize = 16;
-/// How many bytes the name of a file may have.
-const LONGEST_FILE_NAME: usize = 255;
 
 /// A bus, by the name that a command gives it, and the file of its new database.
 #[derive(Debug, Drop)]
@@ -60,16 +56,6 @@ impl<T: Drop> From<AllocFailed<T>> for LineRefused {
     }
 }
 
-/// The name of a file as text.
-fn file_name(name: &[u8]) -> Option<&str>
-    ensures { text_view result ≡ name_view name.now }
-{
-    if name.is_empty() || name.len() > LONGEST_FILE_NAME {
-        return None;
-    }
-    str::from_utf8(name).ok()
-}
-
 /// Whether one of the pairs has this bus.
 fn names_bus(pairs: &[Pair], bus: &[u8]) -> bool
     ensures { result ≡ list_any (λ (p : Pair). bytes_eq p.bus bus.now) pairs.now }
@@ -89,7 +75,7 @@ fn add_pair(
     if pairs.len() >= MOST_PAIRS || names_bus(pairs, bus) {
         return Err(LineRefused::Form);
     }
-    let Some(file) = file_name(file) else {
+    let Some(file) = name_text(file) else {
         return Err(LineRefused::Form);
     };
     pairs.push(Pair {

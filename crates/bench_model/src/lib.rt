@@ -41,5 +41,6 @@ pub use laws::{bits_by_shift, bytes_as_number, intel_weights, motorola_places, r
 pub use names::names_in_a_meaning;
 pub use reading::{Ask, Body, CutCause, Item, Missed, Plain, Reading, SignalValue};
 pub use replace::Change;
+pub use sizes::{LAST_START, MOST_BITS};
 pub use text::Text;
 pub use valid::Valid;

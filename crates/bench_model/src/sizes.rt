@@ -14,9 +14,9 @@ use std::alloc::Global;
 /// The longest message: 255 packets of 7 bytes (SAE J1939-21).
 const LONGEST_MESSAGE: u32 = 1_785;
 /// The most bits of a signal.
-pub(crate) const MOST_BITS: u32 = 64;
+pub const MOST_BITS: u32 = 64;
 /// The last bit of the longest message.
-pub(crate) const LAST_START: u32 = 14_279;
+pub const LAST_START: u32 = 14_279;
 
 /// Whether a signal's size and start are within the limits.
 fn is_sized(signal: &Signal) -> bool

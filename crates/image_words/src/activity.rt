@@ -14,10 +14,7 @@ use crate::choices::is_in_ranges;
 use crate::layout::SIGNAL_WORDS;
 use crate::rows::{Level, level_at};
 use crate::shape::Shape;
-use multiplex_tree::activity_by_steps;
-
-/// The most parents above a signal.
-const MOST_PARENTS: usize = 8;
+use multiplex_tree::{MOST_PARENTS, activity_by_steps};
 
 /// Where a signal's parent leads.
 #[derive(Clone, Copy)]

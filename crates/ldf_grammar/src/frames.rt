@@ -9,20 +9,17 @@ ghost use Rattle.ldf_grammar.specs.Gives.{Gives};
 
 use crate::parts::{Part, Stop, parts_until};
 use crate::statement::{Frame, FrameSignal, SignalLine};
+use bench_model::{LAST_START, MOST_BITS};
 use sig_text::Token;
 use std::alloc::Global;
 use token_forms::{literal_at, number_up_to_at, word_at};
 
 /// The greatest number of an LDF.
 const MOST: u64 = 9_223_372_036_854_775_807;
-/// The most bits of a signal.
-const MOST_BITS: u64 = 64;
 /// The last frame identifier.
 const LAST_ID: u64 = 63;
 /// The most bytes of a frame.
 const MOST_BYTES: u64 = 8;
-/// The last place of a signal.
-const LAST_OFFSET: u64 = 14_279;
 
 /// A further word of a list: `,` and a word.
 impl Part for Token {
@@ -104,7 +101,7 @@ fn signal_size<'a>(bytes: &[u8], tokens: &'a [Token]) -> Option<((Token, u32), &
 {
     let (name, rest) = word_at(tokens)?;
     let rest = literal_at(bytes, b":", rest)?;
-    let (size, rest) = number_up_to_at(bytes, MOST_BITS, rest)?;
+    let (size, rest) = number_up_to_at(bytes, u64::from(MOST_BITS), rest)?;
     let rest = literal_at(bytes, b",", rest)?;
     Some(((name, size as u32), rest))
 }
@@ -144,7 +141,7 @@ fn frame_signal<'a>(bytes: &[u8], tokens: &'a [Token]) -> Option<(FrameSignal, &
 {
     let (name, rest) = word_at(tokens)?;
     let rest = literal_at(bytes, b",", rest)?;
-    let (offset, rest) = number_up_to_at(bytes, LAST_OFFSET, rest)?;
+    let (offset, rest) = number_up_to_at(bytes, u64::from(LAST_START), rest)?;
     let rest = literal_at(bytes, b";", rest)?;
     Some((
         FrameSignal {

@@ -9,7 +9,7 @@ use crate::{MuxFault, MuxWhy};
 use std::alloc::{AllocError, Global};
 
 /// How many parents may be above a signal: a limit of this project.
-pub(crate) const MOST_PARENTS: usize = 8;
+pub const MOST_PARENTS: usize = 8;
 
 /// The signal above one that may not be there.
 fn above(parents: &[Option<usize>], signal: Option<usize>) -> Option<usize>

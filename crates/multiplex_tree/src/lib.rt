@@ -20,6 +20,7 @@ mod mark;
 mod parents;
 mod tree;
 
+pub use chain::MOST_PARENTS;
 pub use fault::{MuxFault, MuxWhy};
 pub use laws::{
     activity_by_parents, activity_by_steps, resolution_is_unique, signals_without_parents,
